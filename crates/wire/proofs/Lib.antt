@@ -1,0 +1,4 @@
+pub mod Keeping
+pub mod Fronts
+pub mod Cells
+pub mod Digits
