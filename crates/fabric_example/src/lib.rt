@@ -1,0 +1,3 @@
+// A fabric of one's own, and a pile of it with the fabrics of the other crate.
+pub mod patch;
+pub mod pile;
