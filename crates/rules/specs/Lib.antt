@@ -1,0 +1,11 @@
+pub mod PerPort
+pub mod State
+pub mod Switching
+pub mod Commands
+pub mod Panel
+pub mod Calls
+pub mod Table
+pub mod History
+pub mod Laws
+pub mod Cases
+pub mod Examples
