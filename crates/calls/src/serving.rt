@@ -4,7 +4,7 @@ ghost use mathlib.Core.List.{map, reverse};
 ghost use Rattle.wire.specs.Frames.{written};
 ghost use Rattle.rules.specs.State.{service};
 ghost use Rattle.rules.specs.Calls.{step, next, final};
-ghost use Rattle.rules.specs.Laws.{Reached, Queue-answers-make-tables-true, Askers-are-told, On-named-inputs};
+ghost use Rattle.rules.specs.Laws.{Reached, Queue-answers-make-tables-true, Outputs-stay-as-named, Askers-are-told, On-named-inputs};
 ghost use Rattle.unit.specs.Units.{state-of};
 ghost use Rattle.calls.specs.Listed.{call-of, buffer-of, lent, shown, shown-along, event, Last-table-true};
 use crate::list::Call;
@@ -42,6 +42,7 @@ pub fn serve<F: Fabric>(fabric: F, address: u8, access: bool, calls: &mut [Liste
     ensures reached { λ r. ⌜ Reached address access (meaning fabric) (reverse (map event (now (calls .exit)))) (state-of meaning r) ⌝ }
     ensures tables { λ _. ⌜ Queue-answers-make-tables-true (service address access (meaning fabric)) (map event (now (calls .exit))) ⌝ }
     ensures outputs { λ r. ⌜ On-named-inputs (meaning fabric) (reverse (map event (now (calls .exit)))) (state-of meaning r) ⌝ }
+    ensures throughout { λ _. ⌜ Outputs-stay-as-named (service address access (meaning fabric)) (map event (now (calls .exit))) ⌝ }
     ensures askers { λ _. ⌜ Askers-are-told (service address access (meaning fabric)) (map event (now (calls .exit))) ⌝ }
     ensures last { λ r. ⌜ Last-table-true (map event (now (calls .exit))) (state-of meaning r) ⌝ }
 {

@@ -126,8 +126,17 @@ tables-true a on m z cs before later e p t q = laws-at a on m z cs before later 
 pub askers-told : Askers-are-always-told
 askers-told a on m z cs before later e t = laws-at a on m z cs before later e t .asker
 
+-- each beginning of a list reaches the state after its calls
+at-moment : (a : ℕ) (on : Bool) (m : Meaning) (h : List Event) (s : State) → Reached a on m h s → (cs : List Call) (before later : List Event)
+    → transcript s cs ≡ before ++ later → Reached a on m (reverseAux before h) (after s before)
+unfolding along ending
+at-moment a on m h s r cs [] later t = r
+at-moment a on m h s r [] (b ∷ before) later t = absurd (let z : _≡_ {A = ℕ} 0 1 = cc in omega arith)
+at-moment a on m h s r (c ∷ cs) (b ∷ before) later t =
+    subst (λ (x : Event). Reached a on m (reverseAux before (x ∷ h)) (after (next s (x .call)) before)) (head-of t)
+    (at-moment a on m (event-at s c ∷ h) (next s c) (laws-after a on m h s r c .reached) cs before later (tail-of t))
+
 pub outputs-as-named : Outputs-always-stay-as-named
-outputs-as-named a on m z cs =
+outputs-as-named a on m z cs before later t =
     let s : State = service a on m in
-    subst (λ (t : State). On-named-inputs m (reverse (transcript s cs)) t) (sym (after-transcript s cs))
-    (outputs-named a on m (reverse (transcript s cs)) (final s cs) (reached-by a on m z cs))
+    outputs-named a on m (reverse before) (after s before) (at-moment a on m [] s (started a on m z) cs before later t)

@@ -7,7 +7,7 @@
 --   Asker-told h e s           at the event e, after the history h, an accepted packet is told what it asked for
 --   after s es                 the state after the calls of the events es
 --   Queue-answers-make-tables-true   a Q answer of at most seven entries makes its port's table true
---   Outputs-stay-as-named      each output is on the input that the accepted settings and locks name
+--   Outputs-stay-as-named      at every moment each output is on the input that the accepted settings and locks name
 --   Askers-are-told            what was asked for can be read in the reply
 --   Reached a on m h s         the unit was put in service at address a with access control on or off over a fabric that means m, the
 --                              events of h came since, and its state is s
@@ -69,9 +69,10 @@ Queue-answers-make-tables-true s es =
     (before later : List Event) (e : Event) (p : Port) → es ≡ before ++ e ∷ later → Short-queue-answer p (reverse before) e
     → Names-feeding (table p (e ∷ reverse before)) (after s (before ++ e ∷ []))
 
--- At the end of the list each output is on the input that is named for it.
+-- At every moment of the list, from its start to its end, each output is on the input that is named for it.
 abbrev pub Outputs-stay-as-named : State → List Event → Type 0
-Outputs-stay-as-named s es = On-named-inputs (s .fabric) (reverse es) (after s es)
+Outputs-stay-as-named s es =
+    (before later : List Event) → es ≡ before ++ later → On-named-inputs (s .fabric) (reverse before) (after s before)
 
 -- Each accepted packet, at whichever port, is told what it asked for.
 abbrev pub Askers-are-told : State → List Event → Type 0

@@ -6,9 +6,9 @@ use borrow.Author.Needs.{needs}
 use lib.ListN.{getD}
 use Rattle.rules.specs.State.{State, service}
 use Rattle.rules.specs.Calls.{Call, Event, transcript, final, Lent, next-lent}
-use Rattle.rules.specs.Laws.{Reached, Queue-answers-make-tables-true, Askers-are-told, On-named-inputs, Short-queue-answer, Names-feeding, after}
+use Rattle.rules.specs.Laws.{Reached, Queue-answers-make-tables-true, Outputs-stay-as-named, Askers-are-told, On-named-inputs, Short-queue-answer, Names-feeding, after}
 use Rattle.rules.proofs.Lists.{run-begins, run-goes-on, run-ends, final-lent-is}
-use Rattle.rules.proofs.Laws.{reached-by, outputs-named, tables-true, askers-told, after-transcript}
+use Rattle.rules.proofs.Laws.{reached-by, outputs-named, outputs-as-named, tables-true, askers-told, after-transcript}
 use Rattle.unit.specs.Units.{state-of}
 use Rattle.calls.specs.declared.list.ListedCall.{ListedCall}
 use Rattle.calls.specs.Listed.{Shown, shown-at, shown-along, shown, lent, call-of, buffer-of, event-in, event}
@@ -54,6 +54,7 @@ returns g c =
       reached = reached;
       tables = subst (Queue-answers-make-tables-true start) (sym seen) (tables-true a on n sound cs);
       outputs = outputs-named a on n (reverse (map event xs)) (state-of m (c .loop-c .unit)) reached;
+      throughout = subst (Outputs-stay-as-named start) (sym seen) (outputs-as-named a on n sound cs);
       askers = subst (Askers-are-told start) (sym seen) (askers-told a on n sound cs);
       last = last-true start (map event xs) (state-of m (c .loop-c .unit)) (subst (Queue-answers-make-tables-true start) (sym seen) (tables-true a on n sound cs)) (goes ∙ sym (after-transcript start cs) ∙ ap (after start) (sym seen));
     }
