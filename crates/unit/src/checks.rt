@@ -8,7 +8,6 @@ ghost use Rattle.rules.specs.State.{port-at};
 ghost use Rattle.rules.specs.Commands.{range-fault, right-fault, may-switch, mask-in-range, is-logged-in-as, fault-of};
 ghost use Rattle.protocol.specs.Commands.{set-mask};
 ghost use Rattle.rules.specs.declared.fault.CommandFault.the-variants.{EthernetLocked};
-ghost use Rattle.unit.specs.Small.{is-user-number};
 ghost use Rattle.std.specs.Vec.{made};
 ghost use Rattle.unit.specs.Switches.{checked, switch-fault};
 ghost use Rattle.unit.specs.Units.{state-of};

@@ -4,8 +4,6 @@ ghost use lib.ListN.{length};
 
 mod methods;
 
-pub const MOST_OUTPUTS: u16 = 256;
-
 #[derive(Clone, Copy)]
 pub(crate) struct Locks {
     cells: [bool; 256],

@@ -1,10 +1,10 @@
-// The calls of the panel: set, lock and unlock an output, and enter a user.
+// The calls of the panel: set, lock and unlock an output.
 ghost use mathlib.Core.Path.{_≡_};
 ghost use mathlib.Core.Bool.{Bool};
 ghost use mathlib.Core.List.{List};
 ghost use Prim.Native.Nat.{ℕ};
 ghost use Rattle.fabric.specs.Meaning.{Meaning};
-ghost use Rattle.rules.specs.Calls.{panel-set, panel-lock, panel-unlock, enter-user, step, next, Event};
+ghost use Rattle.rules.specs.Calls.{panel-set, panel-lock, panel-unlock, step, next, Event};
 ghost use Rattle.rules.specs.Panel.{panel-refusal};
 ghost use Rattle.rules.specs.Switching.{in-range};
 ghost use Rattle.rules.specs.Laws.{Reached, Laws-hold};
