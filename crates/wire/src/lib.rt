@@ -1,5 +1,7 @@
 // What goes over a line, for programs with a unit and without one: lists of the first elements that came,
 // the fields of packets and replies, and replies as bytes.
+#![tactic(auto)]
+
 pub mod fields;
 pub mod list;
 pub mod reply;

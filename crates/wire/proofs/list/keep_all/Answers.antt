@@ -1,5 +1,5 @@
 -- One more element is kept behind those before it, or marks the overrun.
-use Rattle.std.proofs.Common.{◌≡◌, ℕ, Bool, length, take, drop, sym, refl, ap, ◌∙◌, zero-le, arith, take_all}
+use Rattle.std.proofs.Common.{ℕ, Bool, length, take, refl, ap, zero-le, arith, take_all}
 use Rattle.std.proofs.lemmas.List.{take_more}
 use Rattle.wire.proofs.Keeping.{firsts-none, firsts-push, counted_within, placed_beyond}
 use Rattle.wire.proofs.list.keep_all.Goals as goal

@@ -3,17 +3,17 @@ use Rattle.std.proofs.Common.{◌+◌, ◌≤◌, length, arith, rules}
 use Rattle.wire.proofs.Cells.{accepted, placed_added, placed-length}
 use Rattle.wire.proofs.reply.Draft.add_all.Goals as goal
 
-pub invariant-of-self : goal.invariant-of-self
-invariant-of-self c =
+pub invariant_of-self : goal.invariant_of-self
+invariant_of-self c =
     let was = c.args.self.now in
     let room : was.used + length c.args.bytes.now ≤ 59 = search rules in
-    (placed-length was.cells was.used _ c.args.bytes.now _ was.whole room c.copy-from-slice.ensures.after (omega arith), (room, tt))
+    record { whole = placed-length was.cells was.used _ c.args.bytes.now _ was.whole room c.copy_from_slice.ensures.after (omega arith); within = room }
 
 pub returns : goal.returns
 returns c =
     let was = c.args.self.now in
     let room : was.used + length c.args.bytes.now ≤ 59 = search rules in
-    let wrote = c.copy-from-slice.ensures.after in
+    let wrote = c.copy_from_slice.ensures.after in
     record {
       answer = accepted was.cells was.used c.args.bytes.now was.whole room;
       after = placed_added was.cells was.used _ c.args.bytes.now _ was.whole room wrote (omega arith);
