@@ -1,12 +1,11 @@
 -- A reply by its first three bytes, its body and its last two bytes.
-use Rattle.std.proofs.Common.{◌≡◌, ℕ, suc, ◌+◌, ◌-◌, ◌≤◌, true, false, cond, eqb, leb, List, [], ◌∷◌, ◌++◌, length, get_or, take, drop, Ok, Err, Result, sym, ap, ◌∙◌, arith}
+use Rattle.std.proofs.Common.{◌≡◌, ℕ, suc, ◌+◌, ◌-◌, ◌≤◌, List, [], ◌∷◌, ◌++◌, length, get_or, take, Err, sym, ap, ◌∙◌, arith}
 use Rattle.std.proofs.lemmas.List.{take_more}
 use Rattle.std.proofs.lemmas.Bool.{eq-eqb, ne_eqb, le-leb, cond-true, cond-false}
 use Rattle.wire.specs.Frames.{check_byte}
 use Rattle.wire.proofs.Fronts.{rest_behind, front3}
-use Rattle.protocol.specs.declared.reply.ReadFault.{ReadFault}
 use Rattle.protocol.specs.declared.reply.ReadFault.TheVariants.{NoEtx, WrongCheckByte}
-use Rattle.protocol.specs.Replies.{Received, read_body, with_address, if_ended, if_long_enough, read_reply}
+use Rattle.protocol.specs.Replies.{read_body, with_address, if_ended, read_reply}
 
 -- all bytes but the last, behind the first three
 but_last : (c h l : ℕ) (rest : List ℕ) → 1 ≤ length rest → take (length (c ∷ h ∷ l ∷ rest) - 1) (c ∷ h ∷ l ∷ rest) ≡ c ∷ h ∷ l ∷ take (length rest - 1) rest

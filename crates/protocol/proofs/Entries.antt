@@ -2,7 +2,7 @@
 use Rattle.std.proofs.Common.{◌≡◌, ℕ, zero, suc, ◌+◌, ◌-◌, ◌*◌, ◌<◌, ◌≤◌, Bool, true, false, cond, ◌&&◌, eqb, ltb, leb, List, [], ◌∷◌, ◌++◌, length, get_or, Some, None, Option, sym, refl, ap, ◌∙◌, arith, length-append}
 use Rattle.std.specs.List.{AllByRecursion as All}
 use Rattle.std.proofs.lemmas.List.{append-nil, append_assoc}
-use Rattle.std.proofs.lemmas.Bool.{ltb-true, lt-ltb, le-leb, cond-true, and_from}
+use Rattle.std.proofs.lemmas.Bool.{lt-ltb, le-leb, cond-true, and_from}
 use Rattle.wire.specs.Fields.{Field, three_digits, read_number}
 use Rattle.wire.specs.Frames.{Frame, added}
 use Rattle.protocol.specs.declared.change.Change.{Change}

@@ -1,5 +1,5 @@
 -- STX, plain bytes, ETX and a check byte come out of a listening receiver as one packet.
-use Rattle.std.proofs.Common.{◌≡◌, ℕ, eqb, List, [], ◌∷◌, ◌++◌, fold, sym, refl, ap, ◌∙◌}
+use Rattle.std.proofs.Common.{◌≡◌, ℕ, eqb, List, [], ◌∷◌, ◌++◌, fold, refl, ap, ◌∙◌}
 use lib.Bits.{bit_xor}
 use Rattle.std.specs.List.{AllByRecursion as All}
 use Rattle.std.proofs.lemmas.List.{append_assoc}
@@ -7,8 +7,8 @@ use Rattle.std.proofs.lemmas.Bool.{ne_eqb}
 use Rattle.wire.specs.Kept.{Kept, put, put_all, empty, firsts}
 use Rattle.wire.specs.Frames.{check_byte}
 use Rattle.wire.proofs.Keeping.{keeps_the_first}
-use Rattle.protocol.specs.Receiver.{Receiver, idle, collecting, awaiting, Packet, most_listed}
-use Rattle.protocol.specs.Runs.{Run, run, Plain, Listens, framed, PacketsAreFramed, CheckByteComesFirst}
+use Rattle.protocol.specs.Receiver.{idle, collecting, awaiting, most_listed}
+use Rattle.protocol.specs.Runs.{Run, run, Plain, framed, PacketsAreFramed, CheckByteComesFirst}
 
 -- the run that ends with the packet of the list l and the exclusive or x, where b is the check byte
 abbrev one_packet : Kept ℕ → ℕ → ℕ → Run

@@ -1,15 +1,14 @@
 -- A reply that was written is read as what it was written for.
-use Rattle.std.proofs.Common.{◌≡◌, ℕ, ◌+◌, ◌-◌, ◌/◌, ◌<◌, Bool, true, false, cond, ◌&&◌, eqb, leb, List, [], ◌∷◌, ◌++◌, length, get_or, take, Some, None, Ok, Err, Option, Result, sym, refl, ap, ◌∙◌, arith, length-append}
+use Rattle.std.proofs.Common.{◌≡◌, ℕ, ◌+◌, ◌-◌, ◌/◌, ◌<◌, true, false, cond, eqb, leb, List, [], ◌∷◌, ◌++◌, length, get_or, take, Some, None, Ok, refl, ap, ◌∙◌, arith, length-append}
 use Rattle.std.specs.List.{AllByRecursion as All}
 use Rattle.std.proofs.lemmas.Bool.{eq-eqb, ne_eqb, le-leb, cond-true}
 use Rattle.wire.specs.Fields.{read_digit, read_number, read_hex, read_colon, two_hex, one_digit, three_digits}
 use Rattle.wire.specs.Frames.{check_byte, up_to_etx}
 use Rattle.wire.proofs.Digits.{digit_back, number_back, hex_back}
 use Rattle.protocol.specs.declared.change.Change.{Change}
-use Rattle.protocol.specs.declared.reply.ReadFault.{ReadFault}
 use Rattle.protocol.specs.Data.{then, past, ended}
 use Rattle.protocol.specs.Commands.{looked_up}
-use Rattle.protocol.specs.Replies.{Contents, keypad_locked, keypad_unlocked, output_locked, output_set, output_unlocked, ethernet_changed, mask_set, flags, version, keypad_state, feeding_input, status, changes, login, logged_in, Reply, ack, nak, contents_bytes, body_of, header_of, frame_of, reply_bytes, entry_digits, read_entries, with_entry, changes_if, named, read_locked, read_x, answers, acked, or_no_contents, read_body, with_address, if_ended, if_long_enough, Received, SmallChange, FitsContents, Fits, ReplyReadsBack}
+use Rattle.protocol.specs.Replies.{Contents, keypad_locked, keypad_unlocked, output_locked, output_set, output_unlocked, ethernet_changed, mask_set, flags, version, keypad_state, feeding_input, status, changes, login, logged_in, Reply, ack, nak, contents_bytes, body_of, header_of, frame_of, entry_digits, read_entries, with_entry, changes_if, named, read_locked, read_x, answers, acked, or_no_contents, read_body, with_address, if_ended, if_long_enough, SmallChange, FitsContents, Fits, ReplyReadsBack}
 
 -- ---- entries
 

@@ -1,5 +1,5 @@
 -- The digits of a unit's size are there exactly if both numbers have three digits.
-use Rattle.std.proofs.Common.{◌≡◌, ℕ, ◌<◌, Bool, true, false, cond, ◌&&◌, ltb, List, Some, None, Option, refl, arith}
+use Rattle.std.proofs.Common.{◌≡◌, ℕ, ◌<◌, Bool, true, false, cond, ◌&&◌, ltb, List, Some, None, refl, arith}
 use Rattle.std.proofs.lemmas.Bool.{ltb-true}
 
 by_tests : (i o : ℕ) (x v : List ℕ) (p q : Bool) → (p ≡ true → i < 1000) → (q ≡ true → o < 1000) → Some x ≡ cond (p && q) (Some v) None → (i < 1000) × (o < 1000) × (x ≡ v)

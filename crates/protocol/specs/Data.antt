@@ -10,7 +10,7 @@
 --   at_colon        the bytes before the first colon, and those behind it
 --   name_and_text   a pair of texts of which the first has 1 to 10 bytes and the second 0 to 10
 --   login_data      colon, a name of 1 to 10 bytes, colon, a password of 0 to 10 bytes
-use Rattle.std.specs.Prelude.{ℕ, ◌+◌, Bool, cond, not, ◌&&◌, List, length, take, drop, Some, None, Option, ◌==◌, nat_le, nat_lt}
+use Rattle.std.specs.Prelude.{ℕ, ◌+◌, cond, not, ◌&&◌, List, length, take, drop, Some, None, Option, ◌==◌, nat_le, nat_lt}
 use Rattle.std.specs.List.{prefix_len}
 use Rattle.wire.specs.Fields.{Field, read_digit, read_number, read_colon}
 

@@ -31,7 +31,7 @@
 --   begins_with_ack    whether bytes are the reply to an accepted packet
 --   SmallChange, FitsContents, Fits     the numbers of a change, an answer, a reply fit their places
 --   ReplyReadsBack     a reply that was written is read as what it was written for
-use Rattle.std.specs.Prelude.{◌≡◌, ℕ, zero, suc, ◌+◌, ◌-◌, ◌/◌, ◌%◌, ◌<◌, ◌≤◌, Bool, true, false, cond, ◌&&◌, List, [], ◌∷◌, ◌++◌, length, take, drop, Some, None, Ok, Err, codes, Option, Result, ◌==◌, nat_le, slice_index}
+use Rattle.std.specs.Prelude.{◌≡◌, ℕ, zero, suc, ◌+◌, ◌-◌, ◌/◌, ◌%◌, ◌<◌, ◌≤◌, Bool, true, false, cond, List, [], ◌∷◌, ◌++◌, length, take, drop, Some, None, Ok, Err, codes, Option, Result, ◌==◌, nat_le, slice_index}
 use Rattle.std.specs.List.{AllByRecursion as All}
 use Rattle.wire.specs.Fields.{Field, one_digit, three_digits, two_hex, read_digit, read_number, read_hex, read_colon}
 use Rattle.wire.specs.Frames.{Frame, check_byte, on_line}

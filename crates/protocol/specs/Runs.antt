@@ -14,7 +14,7 @@ use Rattle.std.specs.Prelude.{◌≡◌, ℕ, List, [], ◌∷◌, ◌++◌, Som
 use Rattle.std.specs.List.{AllByRecursion as All}
 use Rattle.wire.specs.Kept.{Kept, firsts}
 use Rattle.wire.specs.Frames.{check_byte}
-use Rattle.protocol.specs.Receiver.{Receiver, idle, collecting, awaiting, Packet, Heard, hear, most_listed}
+use Rattle.protocol.specs.Receiver.{Receiver, idle, collecting, awaiting, Packet, hear, most_listed}
 
 pub record Run : Type 0 where
   pub next : Receiver

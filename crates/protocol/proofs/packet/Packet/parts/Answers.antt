@@ -4,4 +4,4 @@ use Rattle.protocol.proofs.Bodies.{parts_at}
 use Rattle.protocol.proofs.packet.Packet.parts.Goals as goal
 
 pub returns-in-len2-up : goal.returns-in-len2-up
-returns-in-len2-up c = parts_at c.as-slice.result.now (search rules) ∙ ap parts c.as-slice.ensures
+returns-in-len2-up c = parts_at c.as_slice.result.now (search rules) ∙ ap parts c.as_slice.ensures

@@ -24,7 +24,7 @@ pub returns-in-79-2 : goal.returns-in-79-2
 returns-in-79-2 c = c.read_input.ensures ∙ lone_input c.args.body.now (search rules) (search rules) (search rules)
 
 pub returns-in-70 : goal.returns-in-70
-returns-in-70 c = c.read-model-and-size.ensures ∙ ap read_contents (begins1 c.args.body.now 70 (search rules) (search rules))
+returns-in-70 c = c.read_model_and_size.ensures ∙ ap read_contents (begins1 c.args.body.now 70 (search rules) (search rules))
 
 pub returns-in-67 : goal.returns-in-67
-returns-in-67 c = c.read-flags.ensures ∙ ap read_contents (begins1 c.args.body.now 67 (search rules) (search rules))
+returns-in-67 c = c.read_flags.ensures ∙ ap read_contents (begins1 c.args.body.now 67 (search rules) (search rules))

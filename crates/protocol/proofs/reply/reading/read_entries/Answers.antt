@@ -13,29 +13,29 @@ loop-read-init c = started c.args.n (queued c.new-queue.result) c.args.s.now c.n
 pub loop-read-preserved : goal.loop-read-preserved
 loop-read-preserved c =
     let n = c.args.n in
-    let i = c.loop-read.-read in
+    let i = c.loop-read._read in
     let k = queued c.loop-read.queue in
     let xs = c.loop-read.rest.now in
     let one_less : n - i ≡ suc (n - (i + 1)) = omega arith in
     let few : length k.items < 8 = omega (arith, c.loop-read.invariant.1, c.requires) in
     let more = entry_read k (n - (i + 1)) xs c.in-Some.more.now few c.in-Some.ensures.answer in
-    let after = c.read-entry.ensures.after in (
+    let after = c.read_entry.ensures.after in (
       ap (λ (j : Kept Change). prefixed j.items (read_entries (n - (i + 1)) c.in-Some.more.now)) after
           ∙ sym more.left ∙ ap (λ (m : ℕ). prefixed k.items (read_entries m xs)) (sym one_less) ∙ c.loop-read.invariant.0,
       ap (λ (j : Kept Change). length j.items) after ∙ more.longer ∙ ap (λ (m : ℕ). m + 1) c.loop-read.invariant.1,
     )
 
-pub returns-in-default : goal.returns-in-default
-returns-in-default c =
+pub returns-in_default : goal.returns-in_default
+returns-in_default c =
     let n = c.args.n in
-    let i = c.loop-read.-read in
+    let i = c.loop-read._read in
     let k = queued c.loop-read.queue in
     let xs = c.loop-read.rest.now in
     let one_less : n - i ≡ suc (n - (i + 1)) = omega arith in
-    sym (no_entry k.items (n - (i + 1)) xs c.in-default.ensures.answer) ∙ ap (λ (m : ℕ). prefixed k.items (read_entries m xs)) (sym one_less) ∙ c.loop-read.invariant.0
+    sym (no_entry k.items (n - (i + 1)) xs c.in_default.ensures.answer) ∙ ap (λ (m : ℕ). prefixed k.items (read_entries m xs)) (sym one_less) ∙ c.loop-read.invariant.0
 
-pub returns-then-is-empty : goal.returns-then-is-empty
-returns-then-is-empty c = finished c.args.n c.loop-read.-read (queued c.loop-read.queue).items c.loop-read.rest.now true c.loop-read-test.false c.if-is-empty.ensures ∙ c.loop-read.invariant.0
+pub returns-then-is_empty : goal.returns-then-is_empty
+returns-then-is_empty c = finished c.args.n c.loop-read._read (queued c.loop-read.queue).items c.loop-read.rest.now true c.loop-read-test.false c.if-is_empty.ensures ∙ c.loop-read.invariant.0
 
-pub returns-else-is-empty : goal.returns-else-is-empty
-returns-else-is-empty c = finished c.args.n c.loop-read.-read (queued c.loop-read.queue).items c.loop-read.rest.now false c.loop-read-test.false c.if-is-empty.ensures ∙ c.loop-read.invariant.0
+pub returns-else-is_empty : goal.returns-else-is_empty
+returns-else-is_empty c = finished c.args.n c.loop-read._read (queued c.loop-read.queue).items c.loop-read.rest.now false c.loop-read-test.false c.if-is_empty.ensures ∙ c.loop-read.invariant.0

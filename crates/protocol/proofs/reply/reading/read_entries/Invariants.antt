@@ -7,5 +7,5 @@ use Rattle.protocol.proofs.reply.reading.read_entries.Given as goal
 
 abbrev pub invariant-loop-read : goal.invariant-loop-read
 invariant-loop-read l =
-    (prefixed (queued l.queue).items (read_entries (l.n - l.-read) l.rest) ≡ read_entries l.n l.s)
-    × (length (queued l.queue).items ≡ l.-read)
+    (prefixed (queued l.queue).items (read_entries (l.n - l._read) l.rest) ≡ read_entries l.n l.s)
+    × (length (queued l.queue).items ≡ l._read)

@@ -5,4 +5,4 @@ use Rattle.protocol.proofs.reply.reading.read_model.Goals as goal
 use Rattle.std.proofs.lemmas.Bool.Decides.{Decides-eqb}
 
 pub returns : goal.returns
-returns c = stripped c.args.s.now model_text c.strip-prefix.result (strip_prefix_is Decides-eqb c.args.s.now model_text c.strip-prefix.result c.strip-prefix.ensures.cases)
+returns c = stripped c.args.s.now model_text c.strip_prefix.result (strip_prefix_is Decides-eqb c.args.s.now model_text c.strip_prefix.result c.strip_prefix.ensures.cases)

@@ -7,12 +7,12 @@ use Rattle.protocol.proofs.reply.reading.read_reply.Goals as goal
 pub returns-then-etx-ne-ETX : goal.returns-then-etx-ne-ETX
 returns-then-etx-ne-ETX c = no_etx c.args.bytes.now (search rules) (search rules) c.if-etx-ne-ETX.true
 
-pub returns-then-check-check-byte : goal.returns-then-check-check-byte
-returns-then-check-check-byte c = wrong_check c.args.bytes.now (search rules) (search rules) c.if-etx-ne-ETX.false (λ e. c.if-check-check-byte.true (e ∙ sym c.check_byte.ensures))
+pub returns-then-check-check_byte : goal.returns-then-check-check_byte
+returns-then-check-check_byte c = wrong_check c.args.bytes.now (search rules) (search rules) c.if-etx-ne-ETX.false (λ e. c.if-check-check_byte.true (e ∙ sym c.check_byte.ensures))
 
 pub returns : goal.returns
 returns c =
     let bytes = c.args.bytes.now in
     c.with_address.ensures
-    ∙ ap (with_address (get_or bytes 1 0) (get_or bytes 2 0)) c.read-body-reply.ensures
-    ∙ right_check bytes (search rules) (search rules) c.if-etx-ne-ETX.false (c.if-check-check-byte.false ∙ c.check_byte.ensures)
+    ∙ ap (with_address (get_or bytes 1 0) (get_or bytes 2 0)) c.read_body-reply.ensures
+    ∙ right_check bytes (search rules) (search rules) c.if-etx-ne-ETX.false (c.if-check-check_byte.false ∙ c.check_byte.ensures)

@@ -4,6 +4,6 @@ use Rattle.protocol.proofs.text.ShortText.of.Goals as goal
 
 pub returns : goal.returns
 returns c =
-    let cells = c.keep-all-used.new.places in
-    let x = c.keep-all-used.result in
-    kept_whole cells c.args.bytes.now x.0 x.1 c.keep-all-used.ensures.kept c.if-overrun.false
+    let cells = c.keep_all-used.new.places in
+    let x = c.keep_all-used.result in
+    kept_whole cells c.args.bytes.now x.0 x.1 c.keep_all-used.ensures.kept c.if-overrun.false
