@@ -1,6 +1,6 @@
 -- The entries of a queue, written one behind the other, and read so.
 use Rattle.std.proofs.Common.{◌≡◌, ℕ, zero, suc, ◌+◌, ◌-◌, ◌*◌, ◌<◌, ◌≤◌, Bool, true, false, cond, ◌&&◌, eqb, ltb, leb, List, [], ◌∷◌, ◌++◌, length, get_or, Some, None, Option, sym, refl, ap, ◌∙◌, arith, length-append}
-use Rattle.std.specs.List.{AllByRecursion as All}
+use Rattle.std.specs.List.{AllByRecursion}
 use Rattle.std.proofs.lemmas.List.{append-nil, append_assoc}
 use Rattle.std.proofs.lemmas.Bool.{lt-ltb, le-leb, cond-true, and_from}
 use Rattle.wire.specs.Fields.{Field, three_digits, read_number}
@@ -32,11 +32,11 @@ one_more f g h l n cs c xs e few x a =
     let room : leb (length (entries_frame h l n cs).body + length (one_entry c)) 59 ≡ true = le-leb _ _ (omega (arith, entries-length cs)) in
     a ∙ (λ i. added (e i) (x i)) ∙ cond-true _ _ _ room ∙ ap (λ (b : List ℕ). record { header = 6; high = h; low = l; body = 81 ∷ (48 + n) ∷ b }) (sym (entries-push cs c))
 
-pub small-push : (cs : List Change) (c : Change) → All SmallChange cs → SmallChange c → All SmallChange (cs ++ c ∷ [])
+pub small-push : (cs : List Change) (c : Change) → AllByRecursion SmallChange cs → SmallChange c → AllByRecursion SmallChange (cs ++ c ∷ [])
 small-push [] c a s = (s, tt)
 small-push (d ∷ cs) c a s = (a.0, small-push cs c a.1 s)
 
-pub small_at : (cs : List Change) (i : ℕ) (d : Change) → i < length cs → All SmallChange cs → SmallChange (get_or cs i d)
+pub small_at : (cs : List Change) (i : ℕ) (d : Change) → i < length cs → AllByRecursion SmallChange cs → SmallChange (get_or cs i d)
 small_at [] i d h a = absurd (omega arith)
 small_at (c ∷ cs) zero d h a = a.0
 small_at (c ∷ cs) (suc i) d h a = small_at cs i d (omega arith) a.1

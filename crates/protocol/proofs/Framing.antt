@@ -1,7 +1,7 @@
 -- STX, plain bytes, ETX and a check byte come out of a listening receiver as one packet.
 use Rattle.std.proofs.Common.{◌≡◌, ℕ, eqb, List, [], ◌∷◌, ◌++◌, fold, refl, ap, ◌∙◌}
 use lib.Bits.{bit_xor}
-use Rattle.std.specs.List.{AllByRecursion as All}
+use Rattle.std.specs.List.{AllByRecursion}
 use Rattle.std.proofs.lemmas.List.{append_assoc}
 use Rattle.std.proofs.lemmas.Bool.{ne_eqb}
 use Rattle.wire.specs.Kept.{Kept, put, put_all, empty, firsts}
@@ -14,11 +14,11 @@ use Rattle.protocol.specs.Runs.{Run, run, Plain, framed, PacketsAreFramed, Check
 abbrev one_packet : Kept ℕ → ℕ → ℕ → Run
 one_packet l x b = record { next = idle; packets = record { listed = l; right = eqb b x } ∷ [] }
 
-collects : (xs : List ℕ) (l : Kept ℕ) (x b : ℕ) → All Plain xs → run (collecting l x) (xs ++ 3 ∷ b ∷ []) ≡ one_packet (put_all most_listed l xs) (fold bit_xor x (xs ++ 3 ∷ [])) b
+collects : (xs : List ℕ) (l : Kept ℕ) (x b : ℕ) → AllByRecursion Plain xs → run (collecting l x) (xs ++ 3 ∷ b ∷ []) ≡ one_packet (put_all most_listed l xs) (fold bit_xor x (xs ++ 3 ∷ [])) b
 collects [] l x b p = refl
 collects (y ∷ ys) l x b p = rw (ne_eqb y 2 p.0.0, ne_eqb y 3 p.0.1) (collects ys (put most_listed l y) (bit_xor x y) b p.1)
 
-started : (xs : List ℕ) (b : ℕ) → All Plain xs → run (collecting empty 2) ((xs ++ 3 ∷ []) ++ b ∷ []) ≡ one_packet (firsts most_listed xs) (check_byte (framed xs)) b
+started : (xs : List ℕ) (b : ℕ) → AllByRecursion Plain xs → run (collecting empty 2) ((xs ++ 3 ∷ []) ++ b ∷ []) ≡ one_packet (firsts most_listed xs) (check_byte (framed xs)) b
 started xs b p =
     ap (run (collecting empty 2)) (append_assoc xs (3 ∷ []) (b ∷ []))
     ∙ collects xs empty 2 b p

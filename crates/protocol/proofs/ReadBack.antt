@@ -1,6 +1,6 @@
 -- A reply that was written is read as what it was written for.
 use Rattle.std.proofs.Common.{◌≡◌, ℕ, ◌+◌, ◌-◌, ◌/◌, ◌<◌, true, false, cond, eqb, leb, List, [], ◌∷◌, ◌++◌, length, get_or, take, Some, None, Ok, refl, ap, ◌∙◌, arith, length-append}
-use Rattle.std.specs.List.{AllByRecursion as All}
+use Rattle.std.specs.List.{AllByRecursion}
 use Rattle.std.proofs.lemmas.Bool.{eq-eqb, ne_eqb, le-leb, cond-true}
 use Rattle.wire.specs.Fields.{read_digit, read_number, read_hex, read_colon, two_hex, one_digit, three_digits}
 use Rattle.wire.specs.Frames.{check_byte, up_to_etx}
@@ -12,7 +12,7 @@ use Rattle.protocol.specs.Replies.{Contents, keypad_locked, keypad_unlocked, out
 
 -- ---- entries
 
-entries_back : (cs : List Change) → All SmallChange cs → read_entries (length cs) (entry_digits cs) ≡ Some cs
+entries_back : (cs : List Change) → AllByRecursion SmallChange cs → read_entries (length cs) (entry_digits cs) ≡ Some cs
 entries_back [] a = refl
 entries_back (c ∷ cs) a =
     ap (λ r. then r (λ o a. then (read_number a) (λ i b. with_entry o i (read_entries (length cs) b)))) (number_back c.output a.0.0 (three_digits c.input ++ entry_digits cs))

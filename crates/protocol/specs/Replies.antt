@@ -32,7 +32,7 @@
 --   SmallChange, FitsContents, Fits     the numbers of a change, an answer, a reply fit their places
 --   ReplyReadsBack     a reply that was written is read as what it was written for
 use Rattle.std.specs.Prelude.{◌≡◌, ℕ, zero, suc, ◌+◌, ◌-◌, ◌/◌, ◌%◌, ◌<◌, ◌≤◌, Bool, true, false, cond, List, [], ◌∷◌, ◌++◌, length, take, drop, Some, None, Ok, Err, codes, Option, Result, ◌==◌, nat_le, slice_index}
-use Rattle.std.specs.List.{AllByRecursion as All}
+use Rattle.std.specs.List.{AllByRecursion}
 use Rattle.wire.specs.Fields.{Field, one_digit, three_digits, two_hex, read_digit, read_number, read_hex, read_colon}
 use Rattle.wire.specs.Frames.{Frame, check_byte, on_line}
 use Rattle.protocol.specs.declared.change.Change.{Change}
@@ -250,7 +250,7 @@ FitsContents (version i o) = (i < 1000) × (o < 1000)
 FitsContents (keypad_state l) = Unit {0}
 FitsContents (feeding_input i) = i < 1000
 FitsContents (status i l m) = (i < 1000) × (m < 256)
-FitsContents (changes cs) = (length cs ≤ 8) × All SmallChange cs
+FitsContents (changes cs) = (length cs ≤ 8) × AllByRecursion SmallChange cs
 FitsContents (login u g n) = (u < 10) × (g < 10) × (length n ≤ 10)
 FitsContents (logged_in u g) = (u < 10) × (g < 10)
 

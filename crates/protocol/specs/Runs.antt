@@ -11,7 +11,7 @@
 --                        STX to ETX
 --   CheckByteComesFirst      a receiver that awaits a check byte takes whatever comes for it
 use Rattle.std.specs.Prelude.{◌≡◌, ℕ, List, [], ◌∷◌, ◌++◌, Some, None, Option, ◌==◌, ◌≢◌}
-use Rattle.std.specs.List.{AllByRecursion as All}
+use Rattle.std.specs.List.{AllByRecursion}
 use Rattle.wire.specs.Kept.{Kept, firsts}
 use Rattle.wire.specs.Frames.{check_byte}
 use Rattle.protocol.specs.Receiver.{Receiver, idle, collecting, awaiting, Packet, hear, most_listed}
@@ -41,7 +41,7 @@ framed xs = 0x02 ∷ xs ++ 0x03 ∷ []
 
 abbrev pub PacketsAreFramed : Type 0
 PacketsAreFramed =
-    (r : Receiver) (xs : List ℕ) (b : ℕ) → Listens r → All Plain xs
+    (r : Receiver) (xs : List ℕ) (b : ℕ) → Listens r → AllByRecursion Plain xs
     → run r (framed xs ++ b ∷ []) ≡ record { next = idle; packets = record { listed = firsts most_listed xs; right = (b == check_byte (framed xs)) } ∷ [] }
 
 abbrev pub CheckByteComesFirst : Type 0

@@ -4,7 +4,7 @@ use Rattle.std.proofs.Common.{◌≡◌, ℕ, ◌+◌, ◌<◌, ◌≤◌, Bool,
 use Rattle.std.proofs.lemmas.List.{length_push}
 use Rattle.std.proofs.lemmas.Bool.{leb-true, ltb-false, ltb-true}
 use Rattle.std.proofs.lemmas.Bool.Decides.{nat_tests}
-use Rattle.std.specs.List.{AllByRecursion as All}
+use Rattle.std.specs.List.{AllByRecursion}
 use Rattle.wire.specs.Kept.{Kept}
 use Rattle.protocol.specs.declared.change.Change.{Change}
 use Rattle.protocol.specs.Receiver.{Receiver}
@@ -73,12 +73,12 @@ few_put : (q : Kept Change) (c : Change) (b : Bool) → ltb (length q.items) 8 �
 few_put q c true e h = let l = ltb-true (length q.items) 8 e in omega (arith, length_push q.items c)
 few_put q c false e h = h
 
-all_push : (cs : List Change) (c : Change) → All SmallChange cs → SmallChange c → All SmallChange (cs ++ c ∷ [])
+all_push : (cs : List Change) (c : Change) → AllByRecursion SmallChange cs → SmallChange c → AllByRecursion SmallChange (cs ++ c ∷ [])
 all_push [] c a s = (s, tt)
 all_push (x ∷ cs) c a s = (a.0, all_push cs c a.1 s)
 
-small_put : (q : Kept Change) (c : Change) (b : Bool) → All SmallChange q.items → SmallChange c
-    → All SmallChange (cond {A = Kept Change} b (record { items = q.items ++ c ∷ []; overrun = q.overrun }) (record { items = q.items; overrun = true })).items
+small_put : (q : Kept Change) (c : Change) (b : Bool) → AllByRecursion SmallChange q.items → SmallChange c
+    → AllByRecursion SmallChange (cond {A = Kept Change} b (record { items = q.items ++ c ∷ []; overrun = q.overrun }) (record { items = q.items; overrun = true })).items
 small_put q c true a s = all_push q.items c a s
 small_put q c false a s = a
 
@@ -86,7 +86,7 @@ small_put q c false a s = a
 pub record PortRight (f : ℕ → ℕ) (t : Table) (r : Receiver) (x : PortState) : Type 0 where
   pub receiver : r ≡ x.receiver
   pub few : length x.queue.items ≤ 8
-  pub small : All SmallChange x.queue.items
+  pub small : AllByRecursion SmallChange x.queue.items
   pub right : Right f t x.queue.items
 
 pub noted_right : (f g : ℕ → ℕ) (t : Table) (r : Receiver) (x : PortState) (o : ℕ) (b : Bool) → Apart f g o → (b ≡ false → g o ≡ f o) → o < 1000 → g o < 1000

@@ -1,6 +1,6 @@
 -- The password of an ELP that was read has at most ten bytes; and a packet for the unit is answered as the rules say.
 use Rattle.std.proofs.Common.{◌≡◌, ℕ, Bool, true, false, cond, eqb, leb, List, [], ◌∷◌, length, drop, Some, None, Ok, Err, Option, Result, sym, refl, ap, ◌∙◌}
-use Rattle.std.specs.List.{AllByRecursion as All}
+use Rattle.std.specs.List.{AllByRecursion}
 use Rattle.protocol.specs.declared.packet.PacketFault.{PacketFault}
 use Rattle.protocol.specs.declared.packet.PacketFault.TheVariants.{Unlisted, WrongCheckByte, ListOverrun}
 use Rattle.protocol.specs.Address.{Parts, parts, matches}
@@ -32,7 +32,7 @@ short xs true e = e
 short xs false e = refl
 
 -- what every row of a table says, the table says
-from_rows : (rs : List (Row (Result Command PacketFault))) (xs : List ℕ) → All (λ r. (ys : List ℕ) → fits_outcome (r.says ys) ≡ true) rs → fits_outcome (looked_up (Err Unlisted) rs xs) ≡ true
+from_rows : (rs : List (Row (Result Command PacketFault))) (xs : List ℕ) → AllByRecursion (λ r. (ys : List ℕ) → fits_outcome (r.says ys) ≡ true) rs → fits_outcome (looked_up (Err Unlisted) rs xs) ≡ true
 from_rows [] xs a = refl
 from_rows (r ∷ rs) xs a = either (begins r.letters xs) (r.says (drop (length r.letters) xs)) (looked_up (Err Unlisted) rs xs) (a.0 (drop (length r.letters) xs)) (from_rows rs xs a.1)
   where

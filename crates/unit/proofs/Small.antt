@@ -1,13 +1,13 @@
 -- The changes of a queue have numbers of three digits, also after one more was put into it.
 use Rattle.std.proofs.Common.{◌≡◌, ℕ, true, ltb, List, [], ◌∷◌, ◌++◌, length, refl}
-use Rattle.std.specs.List.{AllByRecursion as All}
+use Rattle.std.specs.List.{AllByRecursion}
 use Rattle.std.proofs.lemmas.Bool.{ltb-true, lt-ltb, and_parts, and_from, cond_both}
 use Rattle.wire.specs.Kept.{Kept, put}
 use Rattle.protocol.specs.declared.change.Change.{Change}
 use Rattle.protocol.specs.Replies.{SmallChange}
 use Rattle.unit.specs.Small.{is_small, are_small}
 
-pub all_small : (cs : List Change) → are_small cs ≡ true → All SmallChange cs
+pub all_small : (cs : List Change) → are_small cs ≡ true → AllByRecursion SmallChange cs
 all_small [] e = tt
 all_small (c ∷ cs) e =
     let both = and_parts (is_small c) (are_small cs) e in

@@ -1,6 +1,6 @@
 -- One entry more stands behind those before it; a number that has no three digits ends the writing.
 use Rattle.std.proofs.Common.{◌≡◌, ◌+◌, ◌<◌, [], ◌∷◌, ◌++◌, length, get_or, take, sym, refl, ap, ◌∙◌, subst, arith, take_all}
-use Rattle.std.specs.List.{AllByRecursion as All}
+use Rattle.std.specs.List.{AllByRecursion}
 use Rattle.std.proofs.lemmas.List.{take_more, length-take-le}
 use Rattle.wire.specs.Frames.{Frame, added, on_line}
 use Rattle.protocol.specs.Replies.{SmallChange}
@@ -22,7 +22,7 @@ loop-change-preserved c =
     let digits = digits_of x c.in-Some.digits c.in-Some.ensures in
     let n = length cs in (
       one_more _ _ c.args.high c.args.low n (take i cs) x _ c.loop-change.invariant.0 shorter digits.1 c.add_all-in-loop-change.ensures.after ∙ ap (entries_frame c.args.high c.args.low n) (sym more),
-      subst (All SmallChange) (sym more) (small-push (take i cs) x c.loop-change.invariant.1 digits.0),
+      subst (AllByRecursion SmallChange) (sym more) (small-push (take i cs) x c.loop-change.invariant.1 digits.0),
     )
 
 pub returns-in_default : goal.returns-in_default
@@ -30,7 +30,7 @@ returns-in_default c =
     let cs = c.as_slice-changes.result.now in
     let i = c.loop-change.change-index in
     let x = get_or cs i (record { output = 0; input = 0 }) in
-    (refl, λ f. no_digits x c.in_default.ensures (small_at cs i _ c.loop-change-test.true (subst (All SmallChange) (sym c.as_slice-changes.ensures.value) f.1)))
+    (refl, λ f. no_digits x c.in_default.ensures (small_at cs i _ c.loop-change-test.true (subst (AllByRecursion SmallChange) (sym c.as_slice-changes.ensures.value) f.1)))
 
 pub returns : goal.returns
 returns c =
@@ -38,7 +38,7 @@ returns c =
     let all : take c.loop-change.change-index cs ≡ cs = take_all _ _ c.loop-change-test.false in
     let value = c.as_slice-changes.ensures.value in
     let few = c.as_slice-changes.ensures.few in
-    let small : All SmallChange cs = subst (All SmallChange) all c.loop-change.invariant.1 in (
-      (omega (arith, few, ap length value), subst (All SmallChange) value small),
+    let small : AllByRecursion SmallChange cs = subst (AllByRecursion SmallChange) all c.loop-change.invariant.1 in (
+      (omega (arith, few, ap length value), subst (AllByRecursion SmallChange) value small),
       c.seal.ensures ∙ ap on_line (c.loop-change.invariant.0 ∙ ap (entries_frame c.args.high c.args.low (length cs)) all ∙ (λ i. entries_frame c.args.high c.args.low (length (value i)) (value i))),
     )

@@ -1,6 +1,6 @@
 -- The draft holds the letter, the count and the entries so far, and these fit their places.
 use Rattle.std.proofs.Common.{◌≡◌, length, take}
-use Rattle.std.specs.List.{AllByRecursion as All}
+use Rattle.std.specs.List.{AllByRecursion}
 use Rattle.wire.specs.Drafts.{frame}
 use Rattle.protocol.specs.Replies.{SmallChange}
 use Rattle.protocol.proofs.Entries.{entries_frame}
@@ -9,4 +9,4 @@ use Rattle.protocol.proofs.reply.writing.write_changes.Given as goal
 abbrev pub invariant-loop-change : goal.invariant-loop-change
 invariant-loop-change l =
     (frame l.draft ≡ entries_frame l.high l.low (length l.changes) (take l.change-index l.changes))
-    × All SmallChange (take l.change-index l.changes)
+    × AllByRecursion SmallChange (take l.change-index l.changes)
