@@ -10,7 +10,7 @@ use Rattle.fabric.specs.Meaning.{within, routed}
 use Rattle.fabric.specs.Cards.{started}
 use Rattle.fabric.specs.Banks.{bank_of, without, closed, is_on, OneClosed, BankSized, AllClosed}
 use Rattle.fabric.specs.Laws.{OnlyTheFeedingRelayIsClosed}
-use Rattle.fabric.specs.Means.{same_meaning}
+use Rattle.fabric.proofs.Means.{same_meaning}
 use Rattle.fabric.proofs.Relays.{lowest, digit, digit_set}
 
 -- a row with one relay
@@ -115,11 +115,11 @@ module _ (i o : ℕ) (sized : BankSized i o) where
   start_fed x false e = refl
 
   start_made : (x y : ℕ) (w : Bool) → within x o ≡ w → ((w && within y i) && not (is_on (get_or (replicate 16 0) (x - 1) 0) y)) ≡ (w && within y i)
-  start_made x y true e = rw (none (x - 1) (grind (arith, nat_tests)), none_on y) (and-true (within y i))
+  start_made x y true e = rw (none (x - 1) (grind (arith, nat_tests)), none_on y) (and_true (within y i))
     where
-      and-true : (t : Bool) → (t && true) ≡ t
-      and-true true = refl
-      and-true false = refl
+      and_true : (t : Bool) → (t && true) ≡ t
+      and_true true = refl
+      and_true false = refl
   start_made x y false e = refl
 
   pub start_means : bank_of i o (replicate 16 1) (replicate 16 0) ≡ started i o

@@ -5,7 +5,7 @@ use Rattle.std.proofs.lemmas.List.{get_or-set_same, get_or-set_other, get_or-rep
 use Rattle.std.proofs.lemmas.Bool.{cases_eq}
 use Rattle.fabric.specs.Meaning.{within, routed}
 use Rattle.fabric.specs.Cards.{card_of, started, CardSized, AllFed}
-use Rattle.fabric.specs.Means.{same_meaning}
+use Rattle.fabric.proofs.Means.{same_meaning}
 
 module _ (i o : ℕ) (xs : List ℕ) (k j : ℕ) (long : o ≤ length xs) (inside : (within k o && within j i) ≡ true) where
   pub card_routed : card_of i o (set xs (k - 1) j) ≡ routed (card_of i o xs) k j

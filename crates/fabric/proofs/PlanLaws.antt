@@ -6,8 +6,8 @@ use Rattle.std.proofs.lemmas.List.{at_drop_more}
 use Rattle.fabric.specs.declared.fault.RouteFault.{RouteFault}
 use Rattle.fabric.specs.Meaning.{Meaning, Sound, routed, after, answer}
 use Rattle.fabric.specs.Plans.{after_all, accepted, sets, none_sets}
-use Rattle.fabric.specs.Laws.{TwoOutputsInEitherOrder, Last-accepted-stays}
-use Rattle.fabric.specs.Means.{same_meaning, made_by_answer}
+use Rattle.fabric.specs.Laws.{TwoOutputsInEitherOrder, LastAcceptedStays}
+use Rattle.fabric.proofs.Means.{same_meaning, made_by_answer}
 
 -- a routing changes neither the counts nor which pairs can be made
 module _ (m : Meaning) (o i : ℕ) where
@@ -15,8 +15,8 @@ module _ (m : Meaning) (o i : ℕ) where
   answer_by true p j = refl
   answer_by false p j = refl
 
-  pub answer-after : (p j : ℕ) → answer (after m o i) p j ≡ answer m p j
-  answer-after = answer_by (m.makeable o i)
+  pub answer_after : (p j : ℕ) → answer (after m o i) p j ≡ answer m p j
+  answer_after = answer_by (m.makeable o i)
 
   none_by : (b : Bool) (k : ℕ) (ps : List (ℕ × ℕ)) → none_sets (cond b (routed m o i) m) k ps ≡ none_sets m k ps
   none_by true k [] = refl
@@ -76,7 +76,7 @@ last_stays m o i [] later made h =
 last_stays m o i (p ∷ before) later made h =
     last_stays (after m p.0 p.1) o i before later (made_after m p.0 p.1 o i ∙ made) (none_after m p.0 p.1 o later ∙ h)
 
-pub last_accepted : (m : Meaning) (ps : List (ℕ × ℕ)) → Last-accepted-stays m ps (after_all m ps)
+pub last_accepted : (m : Meaning) (ps : List (ℕ × ℕ)) → LastAcceptedStays m ps (after_all m ps)
 last_accepted m ps = record {
   none = none_stays m ps;
   last = λ o i before later e made h. ap (λ xs. (after_all m xs).feeding o) e ∙ last_stays m o i before later made h;

@@ -17,16 +17,16 @@ pub second_side : (t : Bool) → Second ≡ cond t First Second → t ≡ false
 second_side true e = ap is_second e
 second_side false e = refl
 
-get_or-side : (n k : ℕ) (side : Side) → get_or (replicate n side) k First ≡ cond (ltb k n) side First
-get_or-side n k side =
+get_or_side : (n k : ℕ) (side : Side) → get_or (replicate n side) k First ≡ cond (ltb k n) side First
+get_or_side n k side =
     elim (cases_lt k n) [
       | inl h ↦ rw lt-ltb (get_or-replicate n k side First h)
       | inr h ↦ rw le-ltb (get_or_past (replicate n side) k First (rw (length-replicate n side) h))
     ]
 
 chosen_at : (n k : ℕ) (side : Side) → chosen (replicate n side) k ≡ (is_second side && within k n)
-chosen_at n k First = rw (get_or-side n (k - 1) First) (grind (arith, nat_tests))
-chosen_at n k Second = rw (get_or-side n (k - 1) Second) (grind (arith, nat_tests))
+chosen_at n k First = rw (get_or_side n (k - 1) First) (grind (arith, nat_tests))
+chosen_at n k Second = rw (get_or_side n (k - 1) Second) (grind (arith, nat_tests))
 
 pub all_chosen : (side : Side) → chosen (replicate 256 side) ≡ (λ k. is_second side && within k 256)
 all_chosen side = λ t k. chosen_at 256 k side t
@@ -46,5 +46,5 @@ module _ (xs : List Side) (o : ℕ) (side : Side) (inside : within o (length xs)
       elsewhere {k} true e apart = let d : k - 1 ≡ o - 1 → ⊥ = λ q. grind (arith, nat_tests) in rw (get_or-set_other xs (o - 1) (k - 1) side First d)
       elsewhere false e apart = refl
 
-  pub chosen-set : chosen (set xs (o - 1) side) ≡ selecting (chosen xs) o (is_second side)
-  chosen-set = λ t k. set_at k t
+  pub chosen_set : chosen (set xs (o - 1) side) ≡ selecting (chosen xs) o (is_second side)
+  chosen_set = λ t k. set_at k t

@@ -9,7 +9,7 @@
 --   OtherInputsBehaveAsTheSecond        so does each input of the second fabric, if the inputs of both fit
 --   PastTheLimitTheFirstAlone           if they do not fit, a join is the first fabric, cut to the smaller count of outputs
 --   InputsBehaveAsInTheirFabrics        these three, of a join in whatever state it is
---   Last-accepted-stays m ps end        in end each output is on the input of its last accepted routing of ps, or as it was in m
+--   LastAcceptedStays m ps end        in end each output is on the input of its last accepted routing of ps, or as it was in m
 use Rattle.std.specs.Prelude.{◌≡◌, ℕ, ◌+◌, ◌≤◌, Bool, true, false, cond, ◌≢◌, List, ◌∷◌, ◌++◌, ◌==◌}
 use Rattle.fabric.specs.declared.join.Join.{Join}
 use Rattle.fabric.specs.Meaning.{Meaning, within, after, answer}
@@ -56,6 +56,6 @@ pub record InputsBehaveAsInTheirFabrics {F G : Type 0} (first : F → Meaning) (
   pub other_inputs : OtherInputsBehaveAsTheSecond (first j.first) (second j.second) (chosen j.selected)
   pub past_limit : PastTheLimitTheFirstAlone (first j.first) (second j.second) (chosen j.selected)
 
-pub record Last-accepted-stays (m : Meaning) (ps : List (ℕ × ℕ)) (end : Meaning) : Type 0 where
+pub record LastAcceptedStays (m : Meaning) (ps : List (ℕ × ℕ)) (end : Meaning) : Type 0 where
   pub none : (o : ℕ) → none_sets m o ps ≡ true → end.feeding o ≡ m.feeding o
   pub last : (o i : ℕ) (before later : List (ℕ × ℕ)) → ps ≡ before ++ (o, i) ∷ later → m.makeable o i ≡ true → none_sets m o later ≡ true → end.feeding o ≡ i

@@ -6,6 +6,4 @@ pub mod Swaps
 pub mod Kinds
 pub mod Plans
 pub mod Laws
-pub mod JoinLaws
-pub mod Means
-pub mod SwapLaws
+pub mod Soundness

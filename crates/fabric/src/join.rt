@@ -1,10 +1,10 @@
 // Two fabrics as one: the inputs of the first, then those of the second.
 ghost use Rattle.std.specs.Prelude.{◌≡◌, true, ◌&&◌};
 ghost use Rattle.fabric.specs.Meaning.{within, after, answer};
-ghost use Rattle.fabric.specs.Joins.{fits as both-fit, joined, new_join};
+ghost use Rattle.fabric.specs.Joins.{fits as both_fit, joined, new_join};
 ghost use Rattle.fabric.specs.Kinds.{is_second, side_of, join_meaning, join_selecting, SelectingGives, chosen};
 ghost use Rattle.fabric.specs.Laws.{InputsBehaveAsInTheirFabrics};
-ghost use Rattle.fabric.specs.JoinLaws.{join_sound};
+ghost use Rattle.fabric.specs.Soundness.{join_sound};
 
 use crate::{Fabric, MOST_INPUTS, RouteFault, is_within};
 
@@ -52,7 +52,7 @@ impl<F: Fabric, G: Fabric> Join<F, G> {
 
     // Whether the inputs of both are few enough for one fabric.
     fn fits(&self) -> bool
-        ensures { result ≡ both-fit (F.Fabric.meaning self.now.first) (G.Fabric.meaning self.now.second) }
+        ensures { result ≡ both_fit (F.Fabric.meaning self.now.first) (G.Fabric.meaning self.now.second) }
     {
         self.first.inputs() + self.second.inputs() <= MOST_INPUTS
     }

@@ -1,6 +1,8 @@
 // Fabrics of a crosspoint switch: what every fabric means, and the kinds that we have.
+#![tactic(auto)]
+
 ghost use Rattle.std.specs.Prelude.{◌≡◌};
-ghost use Rattle.fabric.specs.Cards.{nearest as nearest-size};
+ghost use Rattle.fabric.specs.Cards.{nearest as nearest_size};
 ghost use Rattle.fabric.specs.Meaning.{Meaning, Sound, answer, after, within};
 
 mod bank;
@@ -58,7 +60,7 @@ pub fn is_within(number: u16, count: u16) -> bool
 
 // `size`, or the nearest of 1 to `most`.
 fn nearest(size: u16, most: u16) -> u16
-    ensures { result ≡ nearest-size size most }
+    ensures { result ≡ nearest_size size most }
 {
     size.min(most).max(1)
 }

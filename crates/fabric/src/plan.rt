@@ -2,7 +2,7 @@
 ghost use Rattle.std.specs.Prelude.{◌≡◌};
 ghost use Rattle.fabric.specs.Meaning.{answer, after};
 ghost use Rattle.fabric.specs.Plans.{accepted, after_all};
-ghost use Rattle.fabric.specs.Laws.{TwoOutputsInEitherOrder, Last-accepted-stays};
+ghost use Rattle.fabric.specs.Laws.{TwoOutputsInEitherOrder, LastAcceptedStays};
 
 use crate::{Fabric, RouteFault};
 
@@ -12,9 +12,9 @@ pub fn route_both<F: Fabric>(
     one: (u16, u16),
     other: (u16, u16),
 ) -> (Result<(), RouteFault>, Result<(), RouteFault>)
-    ensures answer { result ≡ (answer (meaning fabric.old) one.0 one.1, answer (meaning fabric.old) other.0 other.1) }
-    ensures after { meaning fabric.new ≡ after (after (meaning fabric.old) one.0 one.1) other.0 other.1 }
-    ensures law { TwoOutputsInEitherOrder (meaning fabric.old) one other }
+    ensures answer { result ≡ (answer (F.Fabric.meaning fabric.old) one.0 one.1, answer (F.Fabric.meaning fabric.old) other.0 other.1) }
+    ensures after { F.Fabric.meaning fabric.new ≡ after (after (F.Fabric.meaning fabric.old) one.0 one.1) other.0 other.1 }
+    ensures law { TwoOutputsInEitherOrder (F.Fabric.meaning fabric.old) one other }
 {
     let first = route_pair(fabric, one);
     let second = route_pair(fabric, other);
@@ -23,9 +23,9 @@ pub fn route_both<F: Fabric>(
 
 // Routes each pair of an output and an input in order, going on after a refusal, and says how many were accepted.
 pub fn route_all<F: Fabric>(fabric: &mut F, plan: &[(u16, u16)]) -> usize
-    ensures answer { result ≡ accepted (meaning fabric.old) plan.now }
-    ensures after { meaning fabric.new ≡ after_all (meaning fabric.old) plan.now }
-    ensures law { Last-accepted-stays (meaning fabric.old) plan.now (meaning fabric.new) }
+    ensures answer { result ≡ accepted (F.Fabric.meaning fabric.old) plan.now }
+    ensures after { F.Fabric.meaning fabric.new ≡ after_all (F.Fabric.meaning fabric.old) plan.now }
+    ensures law { LastAcceptedStays (F.Fabric.meaning fabric.old) plan.now (F.Fabric.meaning fabric.new) }
 {
     let mut done = 0;
     for pair in plan {
@@ -37,8 +37,8 @@ pub fn route_all<F: Fabric>(fabric: &mut F, plan: &[(u16, u16)]) -> usize
 }
 
 fn route_pair<F: Fabric>(fabric: &mut F, pair: (u16, u16)) -> Result<(), RouteFault>
-    ensures answer { result ≡ answer (meaning fabric.old) pair.0 pair.1 }
-    ensures after { meaning fabric.new ≡ after (meaning fabric.old) pair.0 pair.1 }
+    ensures answer { result ≡ answer (F.Fabric.meaning fabric.old) pair.0 pair.1 }
+    ensures after { F.Fabric.meaning fabric.new ≡ after (F.Fabric.meaning fabric.old) pair.0 pair.1 }
 {
     fabric.route(pair.0, pair.1)
 }

@@ -3,7 +3,7 @@ ghost use Rattle.std.specs.Prelude.{◌≡◌};
 ghost use Rattle.fabric.specs.Swaps.{exchanged, swapped};
 ghost use Rattle.fabric.specs.Kinds.{swap_meaning};
 ghost use Rattle.fabric.specs.Laws.{SwappedTwiceIsTheFabricBelow};
-ghost use Rattle.fabric.specs.SwapLaws.{swap_sound};
+ghost use Rattle.fabric.specs.Soundness.{swap_sound};
 
 use crate::{Fabric, RouteFault, is_within};
 
@@ -17,14 +17,14 @@ pub struct Swap<F> {
 
 impl<F: Fabric> Swap<F> {
     pub fn new(below: F, p: u16, q: u16) -> Swap<F>
-        ensures { swap_meaning meaning result ≡ swapped (meaning below) p q }
+        ensures { swap_meaning F.Fabric.meaning result ≡ swapped (F.Fabric.meaning below) p q }
     {
         Swap { below, p, q }
     }
 
     // The number that `input` has below, and the other way round.
     fn across(&self, input: u16) -> u16
-        ensures { result ≡ exchanged (meaning self.now.below).inputs self.now.p self.now.q input }
+        ensures { result ≡ exchanged (F.Fabric.meaning self.now.below).inputs self.now.p self.now.q input }
     {
         let count = self.below.inputs();
         if !is_within(self.p, count) || !is_within(self.q, count) {

@@ -2,10 +2,10 @@
 use Rattle.std.proofs.Common.{◌≡◌, ℕ, ◌+◌, ◌≤◌, Bool, true, false, cond, is_ok, sym, ◌∙◌, subst, arith}
 use Rattle.std.proofs.lemmas.List.{drop_all}
 use Rattle.fabric.specs.Meaning.{Meaning}
-use Rattle.fabric.specs.Laws.{Last-accepted-stays}
+use Rattle.fabric.specs.Laws.{LastAcceptedStays}
 use Rattle.fabric.proofs.PlanLaws.{one_more, last_accepted}
 use Rattle.fabric.proofs.plan.route_all.Goals as goal
-use Rattle.fabric.proofs.plan.route_all.Goals.{then-is-ok, else-is-ok}
+use Rattle.fabric.proofs.plan.route_all.Goals.{then-is_ok, else-is_ok}
 
 counting : (t : Bool) → (d n u v w : ℕ) → d ≤ n → d + u ≡ w → u ≡ cond t 1 0 + v → (d + cond t 1 0 ≤ n + 1) × (d + cond t 1 0 + v ≡ w)
 counting true d n u v w l e f = (omega arith, omega arith)
@@ -15,13 +15,13 @@ pub loop-pair-preserved : goal.loop-pair-preserved
 loop-pair-preserved g c =
     let m = g.F.Fabric.meaning in
     let inv = c.loop-pair.invariant in
-    let turn = one_more c.args.plan.now c.loop-pair.pair-index c.loop-pair-test.true (m c.loop-pair.fabric) (m c.route-pair.new.fabric)
-    (g.met.F.Fabric.sound c.loop-pair.fabric) c.route-pair.result c.route-pair.ensures.answer c.route-pair.ensures.after in
-    let count = counting (is_ok c.route-pair.result) _ _ _ _ _ inv.0 inv.1 turn.0 in
-    let done : c.if-is-ok.done ≡ c.loop-pair.done + cond (is_ok c.route-pair.result) 1 0 =
-    elim c.if-is-ok.branch [
-      | then-is-ok w ↦ rw (sym c.is-ok.ensures.value ∙ w.if-is-ok.true) w.done-is
-      | else-is-ok w ↦ rw (sym c.is-ok.ensures.value ∙ w.if-is-ok.false) (omega (arith, w.done-is))
+    let turn = one_more c.args.plan.now c.loop-pair.pair-index c.loop-pair-test.true (m c.loop-pair.fabric) (m c.route_pair.new.fabric)
+    (g.met.F.Fabric.sound c.loop-pair.fabric) c.route_pair.result c.route_pair.ensures.answer c.route_pair.ensures.after in
+    let count = counting (is_ok c.route_pair.result) _ _ _ _ _ inv.0 inv.1 turn.0 in
+    let done : c.if-is_ok.done ≡ c.loop-pair.done + cond (is_ok c.route_pair.result) 1 0 =
+    elim c.if-is_ok.branch [
+      | then-is_ok w ↦ rw (sym c.is_ok.ensures.value ∙ w.if-is_ok.true) w.done-is
+      | else-is_ok w ↦ rw (sym c.is_ok.ensures.value ∙ w.if-is_ok.false) (omega (arith, w.done-is))
     ] in
     (rw done count.0, rw done count.1, sym turn.1 ∙ inv.2)
 
@@ -34,5 +34,5 @@ returns g c =
     record {
       answer = omega (arith, counted);
       after = changed;
-      law = subst (λ (end : Meaning). Last-accepted-stays (m c.args.fabric.now) c.args.plan.now end) (sym changed) (last_accepted (m c.args.fabric.now) c.args.plan.now);
+      law = subst (λ (end : Meaning). LastAcceptedStays (m c.args.fabric.now) c.args.plan.now end) (sym changed) (last_accepted (m c.args.fabric.now) c.args.plan.now);
     }

@@ -2,7 +2,7 @@
 use Rattle.std.proofs.Common.{ap, ◌∙◌}
 use Rattle.fabric.specs.Meaning.{Meaning}
 use Rattle.fabric.specs.Swaps.{swapped}
-use Rattle.fabric.specs.SwapLaws.{swapped_twice}
+use Rattle.fabric.proofs.SwapLaws.{swapped_twice}
 use Rattle.fabric.proofs.swap.swap_twice.Goals as goal
 
 pub returns : goal.returns

@@ -2,7 +2,7 @@
 use Rattle.fabric.proofs.BankLaws.{start_closed}
 use Rattle.fabric.proofs.bank.BankSetup.into_service.Goals as goal
 
-pub invariant-of-result : goal.invariant-of-result
-invariant-of-result c =
+pub invariant_of-result : goal.invariant_of-result
+invariant_of-result c =
     let s = c.args.self in
-    (s.sized, (start_closed s.inputs s.outputs s.sized, tt))
+    record { sized = s.sized; one = start_closed s.inputs s.outputs s.sized }

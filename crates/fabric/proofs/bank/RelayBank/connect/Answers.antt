@@ -3,10 +3,13 @@ use Rattle.std.proofs.Common.{arith}
 use Rattle.fabric.proofs.BankLaws.{bank_closed, bank_routed}
 use Rattle.fabric.proofs.bank.RelayBank.connect.Goals as goal
 
-pub invariant-of-self : goal.invariant-of-self
-invariant-of-self c =
+pub invariant_of-self : goal.invariant_of-self
+invariant_of-self c =
     let s = c.args.self.now in
-    (s.sized, (bank_closed s.inputs s.outputs s.rows s.bad c.args.output c.requires.0 (omega (arith, s.sized.3)) c.args.row c.requires.1 s.one, tt))
+    record {
+      sized = s.sized;
+      one = bank_closed s.inputs s.outputs s.rows s.bad c.args.output c.requires.0 (omega (arith, s.sized.3)) c.args.row c.requires.1 s.one;
+    }
 
 pub returns : goal.returns
 returns c =

@@ -3,10 +3,13 @@ use Rattle.std.proofs.Common.{arith}
 use Rattle.fabric.proofs.CardLaws.{card_routed, card_fed}
 use Rattle.fabric.proofs.card.Card.connect.Goals as goal
 
-pub invariant-of-self : goal.invariant-of-self
-invariant-of-self c =
+pub invariant_of-self : goal.invariant_of-self
+invariant_of-self c =
     let s = c.args.self.now in
-    (s.sized, (card_fed s.inputs s.outputs s.from c.args.output c.args.input (omega (arith, s.sized.3)) c.requires s.fed, tt))
+    record {
+      sized = s.sized;
+      fed = card_fed s.inputs s.outputs s.from c.args.output c.args.input (omega (arith, s.sized.3)) c.requires s.fed;
+    }
 
 pub returns : goal.returns
 returns c =

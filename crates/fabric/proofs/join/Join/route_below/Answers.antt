@@ -1,10 +1,8 @@
 -- A routing of the fabric that has the input is one of the join, once that fabric is selected.
-use Rattle.std.proofs.Common.{◌-◌}
 use Rattle.std.proofs.lemmas.Bool.{and_parts}
-use Rattle.fabric.specs.Meaning.{after, answer}
 use Rattle.fabric.specs.Kinds.{chosen}
 use Rattle.fabric.proofs.Sides.{first_side, second_side}
-use Rattle.fabric.specs.JoinLaws.{first_below, second_below}
+use Rattle.fabric.proofs.JoinLaws.{first_below, second_below}
 use Rattle.fabric.proofs.join.Join.route_below.Goals as goal
 
 pub returns-in-First : goal.returns-in-First

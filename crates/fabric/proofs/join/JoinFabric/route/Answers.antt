@@ -1,9 +1,9 @@
 -- An output of the join is one of the 256 that have a selected side.
 use Rattle.std.proofs.Common.{sym, arith}
-use Rattle.fabric.specs.JoinLaws.{wider}
+use Rattle.fabric.proofs.JoinLaws.{wider}
 use Rattle.fabric.proofs.join.JoinFabric.route.Goals as goal
 
 pub select-requires : goal.select-requires
 select-requires g c =
     let few = (g.met.F.Fabric.sound c.args.self.now.first).few_outputs in
-    wider c.args.output c.outputs.result 256 (sym c.if-not-is-within.ensures) (omega (arith, few, c.outputs.ensures))
+    wider c.args.output c.outputs.result 256 (sym c.if-not-is_within.ensures) (omega (arith, few, c.outputs.ensures))

@@ -1,15 +1,16 @@
--- A join is sound; a routing of one of the two fabrics is one of the join; each input behaves as in the fabric that has it.
-use Rattle.std.specs.Prelude.{◌≡◌, ℕ, ◌+◌, ◌-◌, ◌<◌, ◌≤◌, min, Bool, true, false, cond, ◌&&◌, leb, Ok, Err, Result, MatchResult, ◌==◌, nat_le, refl}
+-- A routing of one of the two fabrics is one of the join; each input behaves as in the fabric that has it.
+use Rattle.std.specs.Prelude.{◌≡◌, ℕ, ◌+◌, ◌-◌, ◌<◌, ◌≤◌, Bool, true, false, cond, ◌&&◌, leb, Ok, Err, Result, MatchResult, ◌==◌, nat_le, refl}
 use Rattle.std.proofs.Common.{sym, ap, ◌∙◌, arith}
 use Rattle.std.proofs.lemmas.Bool.Decides.{nat_tests}
 use Rattle.std.proofs.lemmas.Bool.{and_parts, and_from, le-leb, lt-leb, leb-false, both_ways}
 use Rattle.fabric.specs.Meaning.{Meaning, Sound, within, routed, after, answer}
 use Rattle.fabric.specs.Joins.{joined, fits, all_inputs, fewer, selecting, cut}
 use Rattle.fabric.specs.Kinds.{is_second, side_of}
+use Rattle.fabric.specs.Soundness.{within_min}
 use Rattle.fabric.specs.declared.fault.RouteFault.{RouteFault}
 use Rattle.fabric.specs.Laws.{AsTheFirst, AsTheSecond, FirstInputsBehaveAsTheFirst, OtherInputsBehaveAsTheSecond, PastTheLimitTheFirstAlone}
 use Rattle.fabric.specs.declared.join.Side.TheVariants.{First, Second}
-use Rattle.fabric.specs.Means.{same_meaning, within_le, after_made, after_refused, made_by_answer}
+use Rattle.fabric.proofs.Means.{same_meaning, within_le, after_made, after_refused, made_by_answer}
 
 some_of : (k n : ℕ) → within k n ≡ true → 1 ≤ k
 some_of k n h = grind (arith, nat_tests)
@@ -24,27 +25,6 @@ covers_first false i m n h = h
 second_has : (fit : Bool) (i m n : ℕ) → within i (cond fit (m + n) m) ≡ true → nat_le i m ≡ false → (fit ≡ true) × (within (i - m) n ≡ true)
 second_has true i m n h e = (refl, grind (arith, nat_tests))
 second_has false i m n h e = absurd (both_ways (nat_le i m) e (and_parts _ _ h).1)
-
-within_min : (k m n : ℕ) → within k (min m n) ≡ true → (within k m ≡ true) × (within k n ≡ true)
-within_min k m n h = (grind (arith, nat_tests), grind (arith, nat_tests))
-
-fed_inside : (m n x y : ℕ) (fit on : Bool) → within x m ≡ true → within y n ≡ true → within (cond (fit && on) (m + y) x) (cond fit (m + n) m) ≡ true
-fed_inside m n x y true true p q = grind (arith, nat_tests)
-fed_inside m n x y true false p q = grind (arith, nat_tests)
-fed_inside m n x y false on p q = p
-
-pub join_sound : (a b : Meaning) (second : ℕ → Bool) → Sound a → Sound b → Sound (joined a b second)
-join_sound a b second sa sb = record {
-  some_inputs = grind (arith, nat_tests, sa.some_inputs);
-  few_inputs = grind (arith, nat_tests, sa.few_inputs);
-  some_outputs = omega (arith, sa.some_outputs, sb.some_outputs);
-  few_outputs = omega (arith, sa.few_outputs);
-  fed = λ o h.
-      let w = within_min o a.outputs b.outputs h in
-      rw h (fed_inside a.inputs b.inputs (a.feeding o) (b.feeding o) (fits a b) (second o) (sa.fed o w.0) (sb.fed o w.1));
-  unfed = λ o h. rw h;
-  made_within = λ o i h. (and_parts _ _ h).0;
-}
 
 -- a routing of one fabric, which is then selected for the output
 module _ (a b : Meaning) (second : ℕ → Bool) (o i : ℕ) (inside : within o (fewer a b) ≡ true) where
@@ -190,8 +170,8 @@ module _ (a b : Meaning) (second : ℕ → Bool) (sa : Sound a) (sb : Sound b) (
       law : AsTheSecond a b second o (i - a.inputs)
       law = as_second a b second sa sb o (i - a.inputs) output has.0 has.1
 
-      made-here : (joined a b second).makeable o i ≡ b.makeable o (i - a.inputs)
-      made-here = ap ((joined a b second).makeable o) (sym back) ∙ law.made
+      made_here : (joined a b second).makeable o i ≡ b.makeable o (i - a.inputs)
+      made_here = ap ((joined a b second).makeable o) (sym back) ∙ law.made
 
       both : (r : Result (Unit {0}) RouteFault) → r ≡ answer b o (i - a.inputs) → Below a b' r
       both (Ok u) e =
@@ -200,7 +180,7 @@ module _ (a b : Meaning) (second : ℕ → Bool) (sa : Sound a) (sb : Sound b) (
           ∙ ap (λ (t : Bool). joined a (routed b o (i - a.inputs)) (selecting second o (is_second (cond t First Second)))) h
           ∙ routed_second a b second o (i - a.inputs) output has.0
           ∙ ap (routed (joined a b second) o) back
-          ∙ sym (after_made (joined a b second) o i (made-here ∙ made))
+          ∙ sym (after_made (joined a b second) o i (made_here ∙ made))
       both (Err f) e =
           let unmade = made_by_answer b o (i - a.inputs) sb e in
-          rw (rw count at s ∙ after_refused b o (i - a.inputs) unmade) (sym (after_refused (joined a b second) o i (made-here ∙ unmade)))
+          rw (rw count at s ∙ after_refused b o (i - a.inputs) unmade) (sym (after_refused (joined a b second) o i (made_here ∙ unmade)))

@@ -27,8 +27,8 @@ module _ (m : Meaning) (o i : ℕ) where
 
   -- by what a routing answers, whether its pair can be made
   pub made_by_answer : Sound m → {r : Result (Unit {0}) RouteFault} → r ≡ answer m o i → m.makeable o i ≡ is_ok r
-  made_by_answer s e = sym (ok-when (m.makeable o i) refl) ∙ ap is_ok (sym e)
+  made_by_answer s e = sym (ok_when (m.makeable o i) refl) ∙ ap is_ok (sym e)
     where
-      ok-when : (t : Bool) → m.makeable o i ≡ t → is_ok (answer m o i) ≡ t
-      ok-when true h = rw (s.made_within o i h, h)
-      ok-when false h = grind (arith, nat_tests)
+      ok_when : (t : Bool) → m.makeable o i ≡ t → is_ok (answer m o i) ≡ t
+      ok_when true h = rw (s.made_within o i h, h)
+      ok_when false h = grind (arith, nat_tests)
