@@ -5,4 +5,4 @@ use Rattle.fabric_example.proofs.pile.refused.Goals as goal
 
 pub returns : goal.returns
 returns c =
-    c.route-both.ensures.answer ∙ ap (λ (m : Meaning). (answer m 4 1, answer m 1 3)) c.assemble-pile.ensures
+    c.route_both.ensures.answer ∙ ap (λ (m : Meaning). (answer m 4 1, answer m 1 3)) c.assemble-pile.ensures
