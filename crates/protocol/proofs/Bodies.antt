@@ -25,7 +25,7 @@ no_s [] h = refl
 no_s (x ∷ t) h = and_left _ _ (ne_eqb x 83 (h (omega arith)))
 
 -- what a table says of such a body, where it looks for OS before O
-module _ {V : Type 0} (table : List ℕ → V) (with-os without : List ℕ → V) (says : (t : List ℕ) → table (79 ∷ t) ≡ cond (begins (83 ∷ []) t) (with-os (drop 1 t)) (without t)) where
+module _ {V : Type 0} (table : List ℕ → V) (with_os without : List ℕ → V) (says : (t : List ℕ) → table (79 ∷ t) ≡ cond (begins (83 ∷ []) t) (with_os (drop 1 t)) (without t)) where
   lone : (s : List ℕ) → 1 ≤ length s → get_or s 0 0 ≡ 79 → (2 ≤ length s → get_or s 1 0 ≡ 83 → ⊥) → without (rest_behind 1 s) ≡ table s
   lone [] h p q = absurd (omega arith)
   lone (a ∷ t) h p q =

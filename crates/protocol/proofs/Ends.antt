@@ -32,7 +32,7 @@ module _ (bytes : List ℕ) (long : 3 ≤ length bytes) (longer : 2 ≤ length (
   pub no_etx : (etx ≡ 3 → ⊥) → Err NoEtx ≡ read_reply bytes
   no_etx other = sym (cond-false _ _ _ (ne_eqb etx 3 other)) ∙ opened
 
-  module _ (is-etx : etx ≡ 3) where
+  module _ (is_etx : etx ≡ 3) where
     summed : check_byte (take (length bytes - 1 - 0) bytes) ≡ check_byte (get_or bytes 0 0 ∷ get_or bytes 1 0 ∷ get_or bytes 2 0 ∷ body ++ 3 ∷ [])
     summed =
         let n : length bytes - 1 - 0 ≡ length bytes - 1 = omega arith in
@@ -40,10 +40,10 @@ module _ (bytes : List ℕ) (long : 3 ≤ length bytes) (longer : 2 ≤ length (
         ap (λ (m : ℕ). check_byte (take m bytes)) n
         ∙ ap (λ (b : List ℕ). check_byte (take (length b - 1) b)) (sym (front3 bytes long))
         ∙ ap check_byte (but_last (get_or bytes 0 0) (get_or bytes 1 0) (get_or bytes 2 0) rest (omega arith))
-        ∙ ap (λ (b : List ℕ). check_byte (get_or bytes 0 0 ∷ get_or bytes 1 0 ∷ get_or bytes 2 0 ∷ b)) (ap (λ (m : ℕ). take m rest) k ∙ take_more rest (length rest - 2) 0 (omega arith) ∙ ap (λ (x : ℕ). body ++ x ∷ []) is-etx)
+        ∙ ap (λ (b : List ℕ). check_byte (get_or bytes 0 0 ∷ get_or bytes 1 0 ∷ get_or bytes 2 0 ∷ b)) (ap (λ (m : ℕ). take m rest) k ∙ take_more rest (length rest - 2) 0 (omega arith) ∙ ap (λ (x : ℕ). body ++ x ∷ []) is_etx)
 
     pub wrong_check : (check ≡ check_byte (take (length bytes - 1 - 0) bytes) → ⊥) → Err WrongCheckByte ≡ read_reply bytes
-    wrong_check other = sym (cond-false _ _ _ (ne_eqb check _ (λ e. other (e ∙ sym summed)))) ∙ sym (cond-true _ _ _ (eq-eqb etx 3 is-etx)) ∙ opened
+    wrong_check other = sym (cond-false _ _ _ (ne_eqb check _ (λ e. other (e ∙ sym summed)))) ∙ sym (cond-true _ _ _ (eq-eqb etx 3 is_etx)) ∙ opened
 
     pub right_check : check ≡ check_byte (take (length bytes - 1 - 0) bytes) → with_address (get_or bytes 1 0) (get_or bytes 2 0) (read_body (get_or bytes 0 0) body) ≡ read_reply bytes
-    right_check same = sym (cond-true _ _ _ (eq-eqb check _ (same ∙ summed))) ∙ sym (cond-true _ _ _ (eq-eqb etx 3 is-etx)) ∙ opened
+    right_check same = sym (cond-true _ _ _ (eq-eqb check _ (same ∙ summed))) ∙ sym (cond-true _ _ _ (eq-eqb etx 3 is_etx)) ∙ opened

@@ -89,9 +89,9 @@ ended_back c h l b k e =
     let one : length (b ++ 3 ∷ []) ≡ length b + 1 = length-append b (3 ∷ []) in
     let two : length xs ≡ length b + 2 = omega (arith, one, length-append (b ++ 3 ∷ []) (k ∷ [])) in
     let at_body : length xs - 2 ≡ length b = omega (arith, two) in
-    let at-end : length xs - 1 ≡ length (b ++ 3 ∷ []) = omega (arith, two, one) in
+    let at_end : length xs - 1 ≡ length (b ++ 3 ∷ []) = omega (arith, two, one) in
     cond-true _ _ _ (le-leb 2 (length xs) (omega (arith, two)))
-    ∙ (λ i. if_ended c h l (take (at_body i) xs) (get_or xs (at_body i) 0) (get_or xs (at-end i) 0))
+    ∙ (λ i. if_ended c h l (take (at_body i) xs) (get_or xs (at_body i) 0) (get_or xs (at_end i) 0))
     ∙ (λ i. if_ended c h l (front_of b 3 k i) (last_but_one b 3 k i) (last (b ++ 3 ∷ []) k i))
     ∙ cond-true _ _ _ (eq-eqb k (check_byte (c ∷ h ∷ l ∷ b ++ 3 ∷ [])) e)
 
