@@ -121,11 +121,11 @@ first_one (Some x) fs e = absurd (let z : ◌≡◌ {A = ℕ} 0 1 = cc in omega 
 module _ (f₀ : ℕ → ℕ) (s : State) (h : List Event) (v : AgreesWith f₀ s h) where
   refused_keeps : (c : Call) (r : Refusal) → Keeps f₀ h c (refused s r)
   unfolding receiver_after table accepted_in
-  refused_keeps (byte n b room) r = record { agrees = agrees_as f₀ s refl refl (not-switched (port_of n)) v; emptied = λ q e. absurd (nothing_is_no_queue e); asker = λ q. tt }
+  refused_keeps (byte n b room) r = record { agrees = agrees_as f₀ s refl refl (not_switched (port_of n)) v; emptied = λ q e. absurd (nothing_is_no_queue e); asker = λ q. tt }
     where
-      not-switched : (q : Option Port) → with_accepted (switched_at q h (record { call = byte n b room; answer = record { result = Err r; reply = [] } })) (accepted_in h) ≡ accepted_in h
-      not-switched None = refl
-      not-switched (Some q) = refl
+      not_switched : (q : Option Port) → with_accepted (switched_at q h (record { call = byte n b room; answer = record { result = Err r; reply = [] } })) (accepted_in h) ≡ accepted_in h
+      not_switched None = refl
+      not_switched (Some q) = refl
   refused_keeps (gap n) r = record { agrees = v; emptied = λ q e. absurd (nothing_is_no_queue e); asker = λ q. tt }
   refused_keeps (hang_up n) r = record { agrees = v; emptied = λ q e. absurd (nothing_is_no_queue e); asker = λ q. tt }
   refused_keeps (panel_set o i) r = record { agrees = v; emptied = λ q e. absurd (nothing_is_no_queue e); asker = λ q. tt }

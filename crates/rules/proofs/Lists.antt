@@ -10,7 +10,7 @@ use Rattle.rules.specs.declared.refusal.Refusal.{Refusal}
 use Rattle.rules.specs.declared.refusal.Refusal.TheVariants.{ShortBuffer}
 use Rattle.rules.specs.PerPort.{port_of}
 use Rattle.rules.specs.State.{State, port_at, with_port, with_receiver}
-use Rattle.rules.specs.Calls.{byte, Answer, Outcome, Event, refused, if_matching, if_addressed, packet_step, byte_step, shortest_buffer, step, event_at, next, reply_in, byte_event, along, ending, transcript, final, Lent, Served, next_lent, served, final_lent}
+use Rattle.rules.specs.Calls.{byte, Answer, Outcome, Event, refused, if_matching, if_addressed, packet_step, byte_step, shortest_buffer, step, event_at, reply_in, byte_event, along, ending, transcript, final, Lent, Served, next_lent, served, final_lent}
 
 -- ---- a byte call by what came back
 
@@ -65,43 +65,43 @@ final_lent_is s (l ∷ ls) = final_lent_is (next_lent s l) ls
 -- ---- a list that is served in place
 
 -- X is what stands in the list; L is what it asks, and E what it shows afterwards
-module _ {X S L E : Type 0} (gives : S → L → E) (Goes-to : S → L → S) (asks : X → L) (shows : X → E) where
+module _ {X S L E : Type 0} (gives : S → L → E) (goes_to : S → L → S) (asks : X → L) (shows : X → E) where
   unfoldable pub WholeRun : S → List X → ℕ → S → List X → Type 0
   WholeRun s₀ xs₀ k s xs =
-      (map shows (take k xs) ++ along gives Goes-to s (map asks (drop k xs)) ≡ along gives Goes-to s₀ (map asks xs₀))
-      × (ending Goes-to s (map asks (drop k xs)) ≡ ending Goes-to s₀ (map asks xs₀))
+      (map shows (take k xs) ++ along gives goes_to s (map asks (drop k xs)) ≡ along gives goes_to s₀ (map asks xs₀))
+      × (ending goes_to s (map asks (drop k xs)) ≡ ending goes_to s₀ (map asks xs₀))
 
   pub run_begins : (s : S) (xs : List X) → WholeRun s xs 0 s xs
   unfolding WholeRun
   run_begins s xs = (refl, refl)
 
   pub run_goes_on : (s₀ : S) (xs₀ : List X) (k : ℕ) (s t : S) (xs : List X) (x y : X) → k < length xs
-      → shows y ≡ gives s (asks (get_or xs k x)) → t ≡ Goes-to s (asks (get_or xs k x))
+      → shows y ≡ gives s (asks (get_or xs k x)) → t ≡ goes_to s (asks (get_or xs k x))
       → WholeRun s₀ xs₀ k s xs → WholeRun s₀ xs₀ (k + 1) t (set xs k y)
   unfolding WholeRun along ending
   run_goes_on s₀ xs₀ k s t xs x y within shown after v =
       let rest : List L = map asks (drop (k + 1) xs) in
-      let rest-is : drop (k + 1) (set xs k y) ≡ drop (k + 1) xs = drop-set-lt (k + 1) xs k y (omega arith) in
-      let left : along gives Goes-to s (map asks (drop k xs)) ≡ shows y ∷ along gives Goes-to t rest =
-      ap (λ (l : List X). along gives Goes-to s (map asks l)) (drop_more xs k x within)
-      ∙ ap (λ (e : E). e ∷ along gives Goes-to (Goes-to s (asks (get_or xs k x))) rest) (sym shown)
-      ∙ ap (λ (u : S). shows y ∷ along gives Goes-to u rest) (sym after) in (
-        ap (λ (l : List X). map shows l ++ along gives Goes-to t (map asks (drop (k + 1) (set xs k y)))) (take_more_set xs k y within)
-            ∙ ap (λ (l : List X). map shows (take k xs ++ (y ∷ [])) ++ along gives Goes-to t (map asks l)) rest-is
-            ∙ ap (λ (l : List E). l ++ along gives Goes-to t rest) (map_push shows (take k xs) y)
-            ∙ append_assoc (map shows (take k xs)) (shows y ∷ []) (along gives Goes-to t rest)
+      let rest_is : drop (k + 1) (set xs k y) ≡ drop (k + 1) xs = drop-set-lt (k + 1) xs k y (omega arith) in
+      let left : along gives goes_to s (map asks (drop k xs)) ≡ shows y ∷ along gives goes_to t rest =
+      ap (λ (l : List X). along gives goes_to s (map asks l)) (drop_more xs k x within)
+      ∙ ap (λ (e : E). e ∷ along gives goes_to (goes_to s (asks (get_or xs k x))) rest) (sym shown)
+      ∙ ap (λ (u : S). shows y ∷ along gives goes_to u rest) (sym after) in (
+        ap (λ (l : List X). map shows l ++ along gives goes_to t (map asks (drop (k + 1) (set xs k y)))) (take_more_set xs k y within)
+            ∙ ap (λ (l : List X). map shows (take k xs ++ (y ∷ [])) ++ along gives goes_to t (map asks l)) rest_is
+            ∙ ap (λ (l : List E). l ++ along gives goes_to t rest) (map_push shows (take k xs) y)
+            ∙ append_assoc (map shows (take k xs)) (shows y ∷ []) (along gives goes_to t rest)
             ∙ ap (λ (l : List E). map shows (take k xs) ++ l) (sym left)
             ∙ v.0,
-        ap (λ (l : List X). ending Goes-to t (map asks l)) rest-is
-            ∙ ap (λ (u : S). ending Goes-to u rest) after
-            ∙ sym (ap (λ (l : List X). ending Goes-to s (map asks l)) (drop_more xs k x within))
+        ap (λ (l : List X). ending goes_to t (map asks l)) rest_is
+            ∙ ap (λ (u : S). ending goes_to u rest) after
+            ∙ sym (ap (λ (l : List X). ending goes_to s (map asks l)) (drop_more xs k x within))
             ∙ v.1,
       )
 
   pub run_ends : (s₀ : S) (xs₀ : List X) (k : ℕ) (s : S) (xs : List X) → length xs ≤ k → WholeRun s₀ xs₀ k s xs
-      → (map shows xs ≡ along gives Goes-to s₀ (map asks xs₀)) × (s ≡ ending Goes-to s₀ (map asks xs₀))
+      → (map shows xs ≡ along gives goes_to s₀ (map asks xs₀)) × (s ≡ ending goes_to s₀ (map asks xs₀))
   unfolding WholeRun along ending
   run_ends s₀ xs₀ k s xs end v = (
-    sym (ap (λ (l : List X). map shows (take k xs) ++ along gives Goes-to s (map asks l)) (drop_all k xs end) ∙ append-nil (map shows (take k xs)) ∙ ap (map shows) (take_all k xs end)) ∙ v.0,
-    sym (ap (λ (l : List X). ending Goes-to s (map asks l)) (drop_all k xs end)) ∙ v.1,
+    sym (ap (λ (l : List X). map shows (take k xs) ++ along gives goes_to s (map asks l)) (drop_all k xs end) ∙ append-nil (map shows (take k xs)) ∙ ap (map shows) (take_all k xs end)) ∙ v.0,
+    sym (ap (λ (l : List X). ending goes_to s (map asks l)) (drop_all k xs end)) ∙ v.1,
   )

@@ -148,15 +148,15 @@ byte_event n b r xs = record { call = byte n b (length xs); answer = record { re
 
 -- ---- lists of calls
 
-module _ {S X E : Type 0} (gives : S → X → E) (Goes-to : S → X → S) where
+module _ {S X E : Type 0} (gives : S → X → E) (goes_to : S → X → S) where
   unfoldable pub along : S → List X → List E
   along s [] = []
-  along s (x ∷ xs) = gives s x ∷ along (Goes-to s x) xs
+  along s (x ∷ xs) = gives s x ∷ along (goes_to s x) xs
 
-module _ {S X : Type 0} (Goes-to : S → X → S) where
+module _ {S X : Type 0} (goes_to : S → X → S) where
   unfoldable pub ending : S → List X → S
   ending s [] = s
-  ending s (x ∷ xs) = ending (Goes-to s x) xs
+  ending s (x ∷ xs) = ending (goes_to s x) xs
 
 abbrev pub transcript : State → List Call → List Event
 transcript = along event_at next

@@ -1,4 +1,6 @@
 // The rules of the unit, as definitions in specs/, with the laws that hold of all its runs; and the small types that the rules speak of.
+#![tactic(auto)]
+
 ghost use Rattle.rules.specs.Cases.{WorkedCases};
 ghost use Rattle.rules.specs.Examples.{PacketExamples, ChangeExamples, EthernetExamples, RightExamples, CallExamples, TableExamples, LawExamples};
 ghost use Rattle.rules.specs.Laws.{QueueAnswersAlwaysMakeTablesTrue, OutputsAlwaysStayAsNamed, AskersAreAlwaysTold, LawsHoldAfterEachCall};
