@@ -3,7 +3,7 @@ use Rattle.std.proofs.Common.{◌≡◌, ℕ, Bool, true, false, List, [], ◌�
 use Rattle.std.specs.Option.{option_map}
 use Rattle.fabric.specs.declared.fault.RouteFault.TheVariants.{CannotBeMade}
 use Rattle.protocol.specs.Commands.{Command, set_output, lock_output}
-use Rattle.protocol.specs.Replies.{Contents, ack, Fits}
+use Rattle.protocol.specs.Replies.{ack, Fits}
 use Rattle.protocol.specs.Replying.{reply_of}
 use Rattle.protocol.specs.declared.reply.Reply.{Reply as ReplyOfCode}
 use Rattle.rules.specs.declared.fault.CommandFault.{CommandFault}
@@ -14,10 +14,10 @@ use Rattle.rules.specs.declared.port.Port.{Port}
 use Rattle.rules.specs.State.{State}
 use Rattle.rules.specs.Switching.{in_range, may_set, may_lock, can_be_made, unless, first_of}
 use Rattle.rules.specs.Commands.{range_fault, ethernet_fault, right_fault, lock_fault, pair_fault, may_switch, Judged, fault_of, effect, contents, unless_fault, reply_to, carried_out}
-use Rattle.rules.specs.Calls.{Outcome, unless_refused}
+use Rattle.rules.specs.Calls.{unless_refused}
 use Rattle.unit.specs.declared.fault.SwitchFault.{SwitchFault}
 use Rattle.unit.specs.declared.fault.SwitchFault.TheVariants.{OutputLocked, Route}
-use Rattle.unit.specs.Switches.{checked, command_fault, panel_fault, switch_fault, set_fault, lock_fault as lock-fault-of, unless_found}
+use Rattle.unit.specs.Switches.{checked, command_fault, panel_fault, switch_fault, set_fault, lock_fault as lock_fault_of, unless_found}
 use Rattle.unit.specs.Answering.{Carried}
 
 module _ {G : Type 0} where
@@ -90,7 +90,7 @@ module _ (s : State) (p : Port) (o i : ℕ) where
   pub lock_stopped : (f : CommandFault) → switch_fault s p 0x4C o i ≡ Some f → fault_of s p (lock_output o i) ≡ Some f
   lock_stopped f = stopped (range_fault (in_range s o i)) (ethernet_fault s p (lock_output o i)) (right_fault (may_switch s p o)) (lock_fault (may_lock s o i) ∷ pair_fault s o i ∷ []) f
 
-  pub lock_passed : switch_fault s p 0x4C o i ≡ None → fault_of s p (lock_output o i) ≡ option_map command_fault (lock-fault-of s o i)
+  pub lock_passed : switch_fault s p 0x4C o i ≡ None → fault_of s p (lock_output o i) ≡ option_map command_fault (lock_fault_of s o i)
   lock_passed e = passed (range_fault (in_range s o i)) (ethernet_fault s p (lock_output o i)) (right_fault (may_switch s p o)) (lock_fault (may_lock s o i) ∷ pair_fault s o i ∷ []) e ∙ as_command (may_lock s o i) (can_be_made s o i)
 
 -- what was tried, by the cause x that was found: the result r, and the state t that was s and would be u

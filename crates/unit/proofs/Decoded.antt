@@ -5,7 +5,7 @@ use Rattle.protocol.specs.declared.packet.PacketFault.{PacketFault}
 use Rattle.protocol.specs.declared.packet.PacketFault.TheVariants.{Unlisted, WrongCheckByte, ListOverrun}
 use Rattle.protocol.specs.Address.{Parts, parts, matches}
 use Rattle.protocol.specs.Receiver.{Packet}
-use Rattle.protocol.specs.Data.{ended, one_number, two_numbers, short_text, mask_data, login_data}
+use Rattle.protocol.specs.Data.{one_number, two_numbers, short_text, mask_data, login_data}
 use Rattle.protocol.specs.Commands.{Command, ask_flags, ask_version, lock_keypad, show_keypad, unlock_keypad, read_queue, lock_ethernet, ask_login, lock_output, set_output, unlock_output, ask_input, ask_status, unlock_ethernet, set_password, set_mask, log_in, begins, Row, with_data, bare, rows, looked_up, decode, command_in}
 use Rattle.rules.specs.declared.port.Port.{Port}
 use Rattle.rules.specs.State.{State}

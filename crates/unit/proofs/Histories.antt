@@ -1,10 +1,10 @@
 -- A call that did what the rules say keeps the laws, for every history by which the unit came to be as it is.
-use Rattle.std.proofs.Common.{◌≡◌, ℕ, Bool, List, [], Some, None, Option, Result, sym, refl, ap, ◌∙◌, subst}
+use Rattle.std.proofs.Common.{◌≡◌, ℕ, Bool, List, [], Some, None, Option, Result, sym, refl, subst}
 use Rattle.fabric.specs.Meaning.{Meaning}
 use Rattle.rules.specs.declared.port.Port.{Port}
 use Rattle.rules.specs.declared.refusal.Refusal.{Refusal}
 use Rattle.rules.specs.State.{State}
-use Rattle.rules.specs.Calls.{Call, gap, hang_up, Event, gap_step, hang_up_step, unless_refused, step, next, event_at}
+use Rattle.rules.specs.Calls.{Call, Event, gap_step, hang_up_step, unless_refused, step, next, event_at}
 use Rattle.rules.specs.Laws.{Reached, LawsHold}
 use Rattle.rules.proofs.Laws.{laws_after}
 use Rattle.unit.specs.Calling.{plain_event}

@@ -1,5 +1,5 @@
 -- A state with other locks, masks or users, and a lock that nothing refuses.
-use Rattle.std.proofs.Common.{◌≡◌, ℕ, Bool, true, not, ◌||◌, eqb, [], ◌∷◌, None, refl}
+use Rattle.std.proofs.Common.{◌≡◌, ℕ, Bool, true, [], ◌∷◌, None}
 use Rattle.fabric.specs.declared.fault.RouteFault.TheVariants.{CannotBeMade}
 use Rattle.rules.specs.State.{User, State}
 use Rattle.rules.specs.Switching.{may_lock, can_be_made, unless, first_of}

@@ -7,7 +7,7 @@
 --   user_of u        a user's name and password
 --   users_of us      the users by number
 --   port_state r     what a port's record holds
-use Rattle.std.specs.Prelude.{ℕ, ◌+◌, ◌-◌, ◌/◌, ◌%◌, ◌^◌, Bool, true, false, cond, List, [], map, ◌==◌}
+use Rattle.std.specs.Prelude.{ℕ, ◌+◌, ◌-◌, ◌/◌, ◌%◌, ◌^◌, Bool, true, false, cond, [], map, ◌==◌}
 use Rattle.fabric.specs.Meaning.{within}
 use Rattle.protocol.specs.Queues.{queued, text}
 use Rattle.protocol.specs.Receiving.{receiver}

@@ -8,7 +8,6 @@
 --   unless_found      the state t, unless a cause was found: then s
 use Rattle.rules.specs.State.{State}
 use Rattle.std.specs.Prelude.{ℕ, not, ◌&&◌, [], ◌∷◌, Some, None, Ok, Err, Option, Result}
-use Rattle.fabric.specs.declared.fault.RouteFault.{RouteFault}
 use Rattle.fabric.specs.declared.fault.RouteFault.TheVariants.{OutOfRange as RouteOutOfRange, CannotBeMade as RouteCannotBeMade}
 use Rattle.rules.specs.declared.fault.CommandFault.{CommandFault}
 use Rattle.rules.specs.declared.fault.CommandFault.TheVariants.{OutOfRange, EthernetLocked, OutputLocked, CannotBeMade}

@@ -33,25 +33,25 @@ fn check(passed: bool, fault: CommandFault) -> Result<(), CommandFault>
 
 impl<F: Fabric> Unit<F> {
     pub(crate) fn is_output(&self, output: u16) -> bool
-        ensures { result ≡ within output (state_of meaning self.now).fabric.outputs }
+        ensures { result ≡ within output (state_of F.meaning self.now).fabric.outputs }
     {
         is_within(output, self.fabric.outputs())
     }
 
     pub(crate) fn is_input(&self, input: u16) -> bool
-        ensures { result ≡ within input (state_of meaning self.now).fabric.inputs }
+        ensures { result ≡ within input (state_of F.meaning self.now).fabric.inputs }
     {
         is_within(input, self.fabric.inputs())
     }
 
     pub(crate) fn check_output(&self, output: u16) -> Result<(), CommandFault>
-        ensures { result ≡ checked (range_fault (within output (state_of meaning self.now).fabric.outputs)) }
+        ensures { result ≡ checked (range_fault (within output (state_of F.meaning self.now).fabric.outputs)) }
     {
         check(self.is_output(output), CommandFault::OutOfRange)
     }
 
     pub(crate) fn check_range(&self, output: u16, input: u16) -> Result<(), CommandFault>
-        ensures { result ≡ checked (range_fault (in_range (state_of meaning self.now) output input)) }
+        ensures { result ≡ checked (range_fault (in_range (state_of F.meaning self.now) output input)) }
     {
         let inside = self.is_output(output) && self.is_input(input);
         check(inside, CommandFault::OutOfRange)
@@ -63,7 +63,7 @@ impl<F: Fabric> Unit<F> {
         bit: u8,
         output: u16,
     ) -> Result<(), CommandFault>
-        ensures { result ≡ checked (range_fault (mask_in_range (state_of meaning self.now) group bit output)) }
+        ensures { result ≡ checked (range_fault (mask_in_range (state_of F.meaning self.now) group bit output)) }
     {
         let inside = is_within(group as u16, 8) && bit <= 1 && self.is_output(output);
         check(inside, CommandFault::OutOfRange)
@@ -71,15 +71,15 @@ impl<F: Fabric> Unit<F> {
 
     // The Ethernet lock stops every command but ELD at port 2; `letter` is the first of the command's.
     pub(crate) fn check_ethernet(&self, port: Port, letter: u8) -> Result<(), CommandFault>
-        ensures { result ≡ checked (unless (not ((state_of meaning self.now).ethernet && is_ethernet port)) (EthernetLocked letter)) }
+        ensures { result ≡ checked (unless (not ((state_of F.meaning self.now).ethernet && is_ethernet port)) (EthernetLocked letter)) }
     {
         let free = !(self.ethernet_locked && is_ethernet(port));
         check(free, CommandFault::EthernetLocked { letter })
     }
 
     fn may_switch(&self, port: Port, output: u16) -> bool
-        requires { within output (state_of meaning self.now).fabric.outputs ≡ true }
-        ensures { result ≡ may_switch (state_of meaning self.now) port output }
+        requires { within output (state_of F.meaning self.now).fabric.outputs ≡ true }
+        ensures { result ≡ may_switch (state_of F.meaning self.now) port output }
     {
         if !self.access {
             return true;
@@ -92,14 +92,14 @@ impl<F: Fabric> Unit<F> {
 
     // S, L and U need a login whose group has its bit set at the output, if access control is on.
     pub(crate) fn check_right(&self, port: Port, output: u16) -> Result<(), CommandFault>
-        requires { within output (state_of meaning self.now).fabric.outputs ≡ true }
-        ensures { result ≡ checked (right_fault (may_switch (state_of meaning self.now) port output)) }
+        requires { within output (state_of F.meaning self.now).fabric.outputs ≡ true }
+        ensures { result ≡ checked (right_fault (may_switch (state_of F.meaning self.now) port output)) }
     {
         check(self.may_switch(port, output), CommandFault::NoRight)
     }
 
     fn is_user_one(&self, port: Port) -> bool
-        ensures { result ≡ is_logged_in_as 1 (port_at (state_of meaning self.now) port).login }
+        ensures { result ≡ is_logged_in_as 1 (port_at (state_of F.meaning self.now) port).login }
     {
         match self.ports.at(port).login() {
             Some(user) => user == 1,
@@ -109,7 +109,7 @@ impl<F: Fabric> Unit<F> {
 
     // ZA needs a login as user 1.
     pub(crate) fn check_user_one(&self, port: Port) -> Result<(), CommandFault>
-        ensures { result ≡ checked (right_fault (is_logged_in_as 1 (port_at (state_of meaning self.now) port).login)) }
+        ensures { result ≡ checked (right_fault (is_logged_in_as 1 (port_at (state_of F.meaning self.now) port).login)) }
     {
         check(self.is_user_one(port), CommandFault::NoRight)
     }
@@ -122,8 +122,8 @@ impl<F: Fabric> Unit<F> {
         output: u16,
         input: u16,
     ) -> Result<(), CommandFault>
-        ensures answer { result ≡ checked (switch_fault (state_of meaning self.now) port letter output input) }
-        ensures inside { OnOk result (in_range (state_of meaning self.now) output input ≡ true) }
+        ensures answer { result ≡ checked (switch_fault (state_of F.meaning self.now) port letter output input) }
+        ensures inside { OnOk result (in_range (state_of F.meaning self.now) output input ≡ true) }
     {
         self.check_range(output, input)?;
         self.check_ethernet(port, letter)?;
@@ -138,8 +138,8 @@ impl<F: Fabric> Unit<F> {
         bit: u8,
         output: u16,
     ) -> Result<(), CommandFault>
-        ensures answer { result ≡ checked (fault_of (state_of meaning self.now) port (set_mask group bit output)) }
-        ensures inside { OnOk result (mask_in_range (state_of meaning self.now) group bit output ≡ true) }
+        ensures answer { result ≡ checked (fault_of (state_of F.meaning self.now) port (set_mask group bit output)) }
+        ensures inside { OnOk result (mask_in_range (state_of F.meaning self.now) group bit output ≡ true) }
     {
         self.check_mask_range(group, bit, output)?;
         self.check_ethernet(port, b'Z')?;

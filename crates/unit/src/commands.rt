@@ -21,8 +21,8 @@ use rules::port::Port;
 
 impl<F: Fabric> Unit<F> {
     fn try_set(&mut self, port: Port, output: u16, input: u16) -> Result<(), CommandFault>
-        ensures answer { result ≡ checked (fault_of (state_of meaning self.old) port (set_output output input)) }
-        ensures after { state_of meaning self.new ≡ unless_found (state_of meaning self.old) (fault_of (state_of meaning self.old) port (set_output output input)) (do_set (state_of meaning self.old) output input) }
+        ensures answer { result ≡ checked (fault_of (state_of F.meaning self.old) port (set_output output input)) }
+        ensures after { state_of F.meaning self.new ≡ unless_found (state_of F.meaning self.old) (fault_of (state_of F.meaning self.old) port (set_output output input)) (do_set (state_of F.meaning self.old) output input) }
     {
         self.check_switch(port, b'S', output, input)?;
         self.set(output, input)?;
@@ -30,8 +30,8 @@ impl<F: Fabric> Unit<F> {
     }
 
     fn try_lock(&mut self, port: Port, output: u16, input: u16) -> Result<(), CommandFault>
-        ensures answer { result ≡ checked (fault_of (state_of meaning self.old) port (lock_output output input)) }
-        ensures after { state_of meaning self.new ≡ unless_found (state_of meaning self.old) (fault_of (state_of meaning self.old) port (lock_output output input)) (do_lock (state_of meaning self.old) output input) }
+        ensures answer { result ≡ checked (fault_of (state_of F.meaning self.old) port (lock_output output input)) }
+        ensures after { state_of F.meaning self.new ≡ unless_found (state_of F.meaning self.old) (fault_of (state_of F.meaning self.old) port (lock_output output input)) (do_lock (state_of F.meaning self.old) output input) }
     {
         self.check_switch(port, b'L', output, input)?;
         self.lock(output, input)?;
@@ -45,7 +45,7 @@ impl<F: Fabric> Unit<F> {
         output: u16,
         input: u16,
     ) -> Result<Reply, CommandFault>
-        ensures { Carried (state_of meaning self.old) port (set_output output input) result (state_of meaning self.new) }
+        ensures { Carried (state_of F.meaning self.old) port (set_output output input) result (state_of F.meaning self.new) }
     {
         self.try_set(port, output, input)?;
         Ok(Reply::OutputSet)
@@ -58,7 +58,7 @@ impl<F: Fabric> Unit<F> {
         output: u16,
         input: u16,
     ) -> Result<Reply, CommandFault>
-        ensures { Carried (state_of meaning self.old) port (lock_output output input) result (state_of meaning self.new) }
+        ensures { Carried (state_of F.meaning self.old) port (lock_output output input) result (state_of F.meaning self.new) }
     {
         self.try_lock(port, output, input)?;
         Ok(Reply::OutputLocked)
@@ -71,7 +71,7 @@ impl<F: Fabric> Unit<F> {
         output: u16,
         input: u16,
     ) -> Result<Reply, CommandFault>
-        ensures { Carried (state_of meaning self.old) port (unlock_output output input) result (state_of meaning self.new) }
+        ensures { Carried (state_of F.meaning self.old) port (unlock_output output input) result (state_of F.meaning self.new) }
     {
         self.check_switch(port, b'U', output, input)?;
         self.unlock(output);
@@ -80,7 +80,7 @@ impl<F: Fabric> Unit<F> {
 
     // O
     pub(crate) fn ask_input(&mut self, port: Port, output: u16) -> Result<Reply, CommandFault>
-        ensures { Carried (state_of meaning self.old) port (ask_input output) result (state_of meaning self.new) }
+        ensures { Carried (state_of F.meaning self.old) port (ask_input output) result (state_of F.meaning self.new) }
     {
         self.check_output(output)?;
         self.check_ethernet(port, b'O')?;
@@ -90,7 +90,7 @@ impl<F: Fabric> Unit<F> {
 
     // OS
     pub(crate) fn ask_status(&mut self, port: Port, output: u16) -> Result<Reply, CommandFault>
-        ensures { Carried (state_of meaning self.old) port (ask_status output) result (state_of meaning self.new) }
+        ensures { Carried (state_of F.meaning self.old) port (ask_status output) result (state_of F.meaning self.new) }
     {
         self.check_output(output)?;
         self.check_ethernet(port, b'O')?;
@@ -103,7 +103,7 @@ impl<F: Fabric> Unit<F> {
 
     // C
     pub(crate) fn ask_flags(&mut self, port: Port) -> Result<Reply, CommandFault>
-        ensures { Carried (state_of meaning self.old) port ask_flags result (state_of meaning self.new) }
+        ensures { Carried (state_of F.meaning self.old) port ask_flags result (state_of F.meaning self.new) }
     {
         self.check_ethernet(port, b'C')?;
         let record = self.ports.at(port);
@@ -116,7 +116,7 @@ impl<F: Fabric> Unit<F> {
 
     // F
     pub(crate) fn ask_version(&mut self, port: Port) -> Result<Reply, CommandFault>
-        ensures { Carried (state_of meaning self.old) port ask_version result (state_of meaning self.new) }
+        ensures { Carried (state_of F.meaning self.old) port ask_version result (state_of F.meaning self.new) }
     {
         self.check_ethernet(port, b'F')?;
         Ok(Reply::Version {
@@ -127,7 +127,7 @@ impl<F: Fabric> Unit<F> {
 
     // KL
     pub(crate) fn lock_keypad(&mut self, port: Port) -> Result<Reply, CommandFault>
-        ensures { Carried (state_of meaning self.old) port lock_keypad result (state_of meaning self.new) }
+        ensures { Carried (state_of F.meaning self.old) port lock_keypad result (state_of F.meaning self.new) }
     {
         self.check_ethernet(port, b'K')?;
         self.keypad_locked = true;
@@ -136,7 +136,7 @@ impl<F: Fabric> Unit<F> {
 
     // KU
     pub(crate) fn unlock_keypad(&mut self, port: Port) -> Result<Reply, CommandFault>
-        ensures { Carried (state_of meaning self.old) port unlock_keypad result (state_of meaning self.new) }
+        ensures { Carried (state_of F.meaning self.old) port unlock_keypad result (state_of F.meaning self.new) }
     {
         self.check_ethernet(port, b'K')?;
         self.keypad_locked = false;
@@ -145,7 +145,7 @@ impl<F: Fabric> Unit<F> {
 
     // KS
     pub(crate) fn show_keypad(&mut self, port: Port) -> Result<Reply, CommandFault>
-        ensures { Carried (state_of meaning self.old) port show_keypad result (state_of meaning self.new) }
+        ensures { Carried (state_of F.meaning self.old) port show_keypad result (state_of F.meaning self.new) }
     {
         self.check_ethernet(port, b'K')?;
         Ok(Reply::KeypadState {
@@ -155,7 +155,7 @@ impl<F: Fabric> Unit<F> {
 
     // Q
     pub(crate) fn read_queue(&mut self, port: Port) -> Result<Reply, CommandFault>
-        ensures { Carried (state_of meaning self.old) port read_queue result (state_of meaning self.new) }
+        ensures { Carried (state_of F.meaning self.old) port read_queue result (state_of F.meaning self.new) }
     {
         self.check_ethernet(port, b'Q')?;
         let queue = self.take_queue(port);
@@ -164,7 +164,7 @@ impl<F: Fabric> Unit<F> {
 
     // ELE
     pub(crate) fn lock_ethernet(&mut self, port: Port) -> Result<Reply, CommandFault>
-        ensures { Carried (state_of meaning self.old) port lock_ethernet result (state_of meaning self.new) }
+        ensures { Carried (state_of F.meaning self.old) port lock_ethernet result (state_of F.meaning self.new) }
     {
         self.check_ethernet(port, b'E')?;
         self.ethernet_locked = true;
@@ -177,7 +177,7 @@ impl<F: Fabric> Unit<F> {
         port: Port,
         password: &[u8],
     ) -> Result<Reply, CommandFault>
-        ensures { Carried (state_of meaning self.old) port (unlock_ethernet password.now) result (state_of meaning self.new) }
+        ensures { Carried (state_of F.meaning self.old) port (unlock_ethernet password.now) result (state_of F.meaning self.new) }
     {
         let _ = port;
         if !same_bytes(password, self.password.as_slice()) {
@@ -189,14 +189,14 @@ impl<F: Fabric> Unit<F> {
 
     // ZC
     pub(crate) fn ask_login(&mut self, port: Port) -> Result<Reply, CommandFault>
-        ensures { Carried (state_of meaning self.old) port ask_login result (state_of meaning self.new) }
+        ensures { Carried (state_of F.meaning self.old) port ask_login result (state_of F.meaning self.new) }
     {
         self.check_ethernet(port, b'Z')?;
         Ok(self.login_shown(port))
     }
 
     fn login_shown(&self, port: Port) -> Reply
-        ensures answer { reply_of result ≡ ack (login_shown (state_of meaning self.now) (port_at (state_of meaning self.now) port).login) }
+        ensures answer { reply_of result ≡ ack (login_shown (state_of F.meaning self.now) (port_at (state_of F.meaning self.now) port).login) }
         ensures fits { Fits (reply_of result) }
     {
         match self.ports.at(port).login() {
@@ -220,7 +220,7 @@ impl<F: Fabric> Unit<F> {
         name: &[u8],
         password: &[u8],
     ) -> Result<Reply, CommandFault>
-        ensures { Carried (state_of meaning self.old) port (log_in name.now password.now) result (state_of meaning self.new) }
+        ensures { Carried (state_of F.meaning self.old) port (log_in name.now password.now) result (state_of F.meaning self.new) }
     {
         self.check_ethernet(port, b'Z')?;
         let Some(user) = self.users.find(name, password) else {
@@ -237,7 +237,7 @@ impl<F: Fabric> Unit<F> {
         password: &[u8],
     ) -> Result<Reply, CommandFault>
         requires { length password.now ≤ most_text }
-        ensures { Carried (state_of meaning self.old) port (set_password password.now) result (state_of meaning self.new) }
+        ensures { Carried (state_of F.meaning self.old) port (set_password password.now) result (state_of F.meaning self.new) }
     {
         self.check_ethernet(port, b'E')?;
         if let Some(text) = ShortText::of(password) {
@@ -254,15 +254,15 @@ impl<F: Fabric> Unit<F> {
         bit: u8,
         output: u16,
     ) -> Result<Reply, CommandFault>
-        ensures { Carried (state_of meaning self.old) port (set_mask group bit output) result (state_of meaning self.new) }
+        ensures { Carried (state_of F.meaning self.old) port (set_mask group bit output) result (state_of F.meaning self.new) }
     {
         self.try_mask(port, group, bit, output)?;
         Ok(Reply::MaskSet)
     }
 
     fn try_mask(&mut self, port: Port, group: u8, bit: u8, output: u16) -> Result<(), CommandFault>
-        ensures answer { result ≡ checked (fault_of (state_of meaning self.old) port (set_mask group bit output)) }
-        ensures after { state_of meaning self.new ≡ unless_found (state_of meaning self.old) (fault_of (state_of meaning self.old) port (set_mask group bit output)) (do_mask (state_of meaning self.old) output group (bit == 1)) }
+        ensures answer { result ≡ checked (fault_of (state_of F.meaning self.old) port (set_mask group bit output)) }
+        ensures after { state_of F.meaning self.new ≡ unless_found (state_of F.meaning self.old) (fault_of (state_of F.meaning self.old) port (set_mask group bit output)) (do_mask (state_of F.meaning self.old) output group (bit == 1)) }
     {
         self.check_mask(port, group, bit, output)?;
         self.put_mask(output, group, bit == 1);

@@ -1,4 +1,6 @@
 // The unit: its calls, over any fabric. It allocates nothing.
+#![tactic(auto)]
+
 mod bytes;
 mod checks;
 mod commands;

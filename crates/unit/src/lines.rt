@@ -15,18 +15,18 @@ use rules::refusal::Refusal;
 impl<F: Fabric> Unit<F> {
     // One byte at a port. Returns the length of the reply that is written to the front of the buffer, 0 for none.
     pub fn byte(&mut self, port: u8, b: u8, reply: &mut [u8]) -> Result<usize, Refusal>
-        ensures answer { result ≡ (step (state_of meaning self.old) (byte port b (length reply.old))).answer.result }
-        ensures buffer { reply.new ≡ written (step (state_of meaning self.old) (byte port b (length reply.old))).answer.reply reply.old }
-        ensures after { state_of meaning self.new ≡ next (state_of meaning self.old) (byte port b (length reply.old)) }
-        ensures law { (a : ℕ) (on : Bool) (m : Meaning) (h : List Event) → Reached a on m h (state_of meaning self.old) → LawsHold a on m h (byte_event port b result reply.new) (state_of meaning self.new) }
+        ensures answer { result ≡ (step (state_of F.meaning self.old) (byte port b (length reply.old))).answer.result }
+        ensures buffer { reply.new ≡ written (step (state_of F.meaning self.old) (byte port b (length reply.old))).answer.reply reply.old }
+        ensures after { state_of F.meaning self.new ≡ next (state_of F.meaning self.old) (byte port b (length reply.old)) }
+        ensures law { (a : ℕ) (on : Bool) (m : Meaning) (h : List Event) → Reached a on m h (state_of F.meaning self.old) → LawsHold a on m h (byte_event port b result reply.new) (state_of F.meaning self.new) }
     {
         self.take_byte(port, b, reply)
     }
 
     fn take_byte(&mut self, port: u8, b: u8, reply: &mut [u8]) -> Result<usize, Refusal>
-        ensures answer { result ≡ (step (state_of meaning self.old) (byte port b (length reply.old))).answer.result }
-        ensures buffer { reply.new ≡ written (step (state_of meaning self.old) (byte port b (length reply.old))).answer.reply reply.old }
-        ensures after { state_of meaning self.new ≡ next (state_of meaning self.old) (byte port b (length reply.old)) }
+        ensures answer { result ≡ (step (state_of F.meaning self.old) (byte port b (length reply.old))).answer.result }
+        ensures buffer { reply.new ≡ written (step (state_of F.meaning self.old) (byte port b (length reply.old))).answer.reply reply.old }
+        ensures after { state_of F.meaning self.new ≡ next (state_of F.meaning self.old) (byte port b (length reply.old)) }
     {
         if reply.len() < 64 {
             return Err(Refusal::ShortBuffer);
@@ -42,16 +42,16 @@ impl<F: Fabric> Unit<F> {
 
     // The line of a port was silent for 200 ms.
     pub fn gap(&mut self, port: u8) -> Result<usize, Refusal>
-        ensures answer { result ≡ (step (state_of meaning self.old) (gap port)).answer.result }
-        ensures after { state_of meaning self.new ≡ next (state_of meaning self.old) (gap port) }
-        ensures law { (a : ℕ) (on : Bool) (m : Meaning) (h : List Event) → Reached a on m h (state_of meaning self.old) → LawsHold a on m h (plain_event (gap port) result) (state_of meaning self.new) }
+        ensures answer { result ≡ (step (state_of F.meaning self.old) (gap port)).answer.result }
+        ensures after { state_of F.meaning self.new ≡ next (state_of F.meaning self.old) (gap port) }
+        ensures law { (a : ℕ) (on : Bool) (m : Meaning) (h : List Event) → Reached a on m h (state_of F.meaning self.old) → LawsHold a on m h (plain_event (gap port) result) (state_of F.meaning self.new) }
     {
         self.take_gap(port)
     }
 
     fn take_gap(&mut self, port: u8) -> Result<usize, Refusal>
-        ensures answer { result ≡ (step (state_of meaning self.old) (gap port)).answer.result }
-        ensures after { state_of meaning self.new ≡ next (state_of meaning self.old) (gap port) }
+        ensures answer { result ≡ (step (state_of F.meaning self.old) (gap port)).answer.result }
+        ensures after { state_of F.meaning self.new ≡ next (state_of F.meaning self.old) (gap port) }
     {
         let Some(port) = Port::from_number(port) else {
             return Err(Refusal::NoSuchPort);
@@ -62,16 +62,16 @@ impl<F: Fabric> Unit<F> {
 
     // The line of a port was hung up: its login ends, and its change queue is kept.
     pub fn hang_up(&mut self, port: u8) -> Result<usize, Refusal>
-        ensures answer { result ≡ (step (state_of meaning self.old) (hang_up port)).answer.result }
-        ensures after { state_of meaning self.new ≡ next (state_of meaning self.old) (hang_up port) }
-        ensures law { (a : ℕ) (on : Bool) (m : Meaning) (h : List Event) → Reached a on m h (state_of meaning self.old) → LawsHold a on m h (plain_event (hang_up port) result) (state_of meaning self.new) }
+        ensures answer { result ≡ (step (state_of F.meaning self.old) (hang_up port)).answer.result }
+        ensures after { state_of F.meaning self.new ≡ next (state_of F.meaning self.old) (hang_up port) }
+        ensures law { (a : ℕ) (on : Bool) (m : Meaning) (h : List Event) → Reached a on m h (state_of F.meaning self.old) → LawsHold a on m h (plain_event (hang_up port) result) (state_of F.meaning self.new) }
     {
         self.take_hang_up(port)
     }
 
     fn take_hang_up(&mut self, port: u8) -> Result<usize, Refusal>
-        ensures answer { result ≡ (step (state_of meaning self.old) (hang_up port)).answer.result }
-        ensures after { state_of meaning self.new ≡ next (state_of meaning self.old) (hang_up port) }
+        ensures answer { result ≡ (step (state_of F.meaning self.old) (hang_up port)).answer.result }
+        ensures after { state_of F.meaning self.new ≡ next (state_of F.meaning self.old) (hang_up port) }
     {
         let Some(port) = Port::from_number(port) else {
             return Err(Refusal::NoSuchPort);

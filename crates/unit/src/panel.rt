@@ -16,8 +16,8 @@ use rules::refusal::Refusal;
 impl<F: Fabric> Unit<F> {
     // What every panel set, lock and unlock is asked: the numbers, and the keypad.
     fn check_panel(&self, output: u16, input: u16) -> Result<(), Refusal>
-        ensures answer { result ≡ checked (panel_refusal (state_of meaning self.now) output input) }
-        ensures inside { OnOk result (in_range (state_of meaning self.now) output input ≡ true) }
+        ensures answer { result ≡ checked (panel_refusal (state_of F.meaning self.now) output input) }
+        ensures inside { OnOk result (in_range (state_of F.meaning self.now) output input ≡ true) }
     {
         if !self.is_output(output) {
             return Err(Refusal::NoSuchOutput);
@@ -33,16 +33,16 @@ impl<F: Fabric> Unit<F> {
 
     // Puts an output on an input.
     pub fn panel_set(&mut self, output: u16, input: u16) -> Result<usize, Refusal>
-        ensures answer { result ≡ (step (state_of meaning self.old) (panel_set output input)).answer.result }
-        ensures after { state_of meaning self.new ≡ next (state_of meaning self.old) (panel_set output input) }
-        ensures law { (a : ℕ) (on : Bool) (m : Meaning) (h : List Event) → Reached a on m h (state_of meaning self.old) → LawsHold a on m h (plain_event (panel_set output input) result) (state_of meaning self.new) }
+        ensures answer { result ≡ (step (state_of F.meaning self.old) (panel_set output input)).answer.result }
+        ensures after { state_of F.meaning self.new ≡ next (state_of F.meaning self.old) (panel_set output input) }
+        ensures law { (a : ℕ) (on : Bool) (m : Meaning) (h : List Event) → Reached a on m h (state_of F.meaning self.old) → LawsHold a on m h (plain_event (panel_set output input) result) (state_of F.meaning self.new) }
     {
         self.try_panel_set(output, input)
     }
 
     fn try_panel_set(&mut self, output: u16, input: u16) -> Result<usize, Refusal>
-        ensures answer { result ≡ (step (state_of meaning self.old) (panel_set output input)).answer.result }
-        ensures after { state_of meaning self.new ≡ next (state_of meaning self.old) (panel_set output input) }
+        ensures answer { result ≡ (step (state_of F.meaning self.old) (panel_set output input)).answer.result }
+        ensures after { state_of F.meaning self.new ≡ next (state_of F.meaning self.old) (panel_set output input) }
     {
         self.check_panel(output, input)?;
         self.set(output, input)?;
@@ -51,16 +51,16 @@ impl<F: Fabric> Unit<F> {
 
     // Puts an output on an input and locks it.
     pub fn panel_lock(&mut self, output: u16, input: u16) -> Result<usize, Refusal>
-        ensures answer { result ≡ (step (state_of meaning self.old) (panel_lock output input)).answer.result }
-        ensures after { state_of meaning self.new ≡ next (state_of meaning self.old) (panel_lock output input) }
-        ensures law { (a : ℕ) (on : Bool) (m : Meaning) (h : List Event) → Reached a on m h (state_of meaning self.old) → LawsHold a on m h (plain_event (panel_lock output input) result) (state_of meaning self.new) }
+        ensures answer { result ≡ (step (state_of F.meaning self.old) (panel_lock output input)).answer.result }
+        ensures after { state_of F.meaning self.new ≡ next (state_of F.meaning self.old) (panel_lock output input) }
+        ensures law { (a : ℕ) (on : Bool) (m : Meaning) (h : List Event) → Reached a on m h (state_of F.meaning self.old) → LawsHold a on m h (plain_event (panel_lock output input) result) (state_of F.meaning self.new) }
     {
         self.try_panel_lock(output, input)
     }
 
     fn try_panel_lock(&mut self, output: u16, input: u16) -> Result<usize, Refusal>
-        ensures answer { result ≡ (step (state_of meaning self.old) (panel_lock output input)).answer.result }
-        ensures after { state_of meaning self.new ≡ next (state_of meaning self.old) (panel_lock output input) }
+        ensures answer { result ≡ (step (state_of F.meaning self.old) (panel_lock output input)).answer.result }
+        ensures after { state_of F.meaning self.new ≡ next (state_of F.meaning self.old) (panel_lock output input) }
     {
         self.check_panel(output, input)?;
         self.lock(output, input)?;
@@ -69,16 +69,16 @@ impl<F: Fabric> Unit<F> {
 
     // Unlocks an output; the input is asked for its range alone.
     pub fn panel_unlock(&mut self, output: u16, input: u16) -> Result<usize, Refusal>
-        ensures answer { result ≡ (step (state_of meaning self.old) (panel_unlock output input)).answer.result }
-        ensures after { state_of meaning self.new ≡ next (state_of meaning self.old) (panel_unlock output input) }
-        ensures law { (a : ℕ) (on : Bool) (m : Meaning) (h : List Event) → Reached a on m h (state_of meaning self.old) → LawsHold a on m h (plain_event (panel_unlock output input) result) (state_of meaning self.new) }
+        ensures answer { result ≡ (step (state_of F.meaning self.old) (panel_unlock output input)).answer.result }
+        ensures after { state_of F.meaning self.new ≡ next (state_of F.meaning self.old) (panel_unlock output input) }
+        ensures law { (a : ℕ) (on : Bool) (m : Meaning) (h : List Event) → Reached a on m h (state_of F.meaning self.old) → LawsHold a on m h (plain_event (panel_unlock output input) result) (state_of F.meaning self.new) }
     {
         self.try_panel_unlock(output, input)
     }
 
     fn try_panel_unlock(&mut self, output: u16, input: u16) -> Result<usize, Refusal>
-        ensures answer { result ≡ (step (state_of meaning self.old) (panel_unlock output input)).answer.result }
-        ensures after { state_of meaning self.new ≡ next (state_of meaning self.old) (panel_unlock output input) }
+        ensures answer { result ≡ (step (state_of F.meaning self.old) (panel_unlock output input)).answer.result }
+        ensures after { state_of F.meaning self.new ≡ next (state_of F.meaning self.old) (panel_unlock output input) }
     {
         self.check_panel(output, input)?;
         self.unlock(output);

@@ -33,7 +33,7 @@ impl<F: Fabric> Unit<F> {
     // Puts a change into the queue of every port.
     pub(crate) fn note_at_all(&mut self, change: Change)
         requires { SmallChange change }
-        ensures { state_of meaning self.new ≡ with_ports (each (λ x. with_queue (put most_queued x.queue change) x) (state_of meaning self.old).ports) (state_of meaning self.old) }
+        ensures { state_of F.meaning self.new ≡ with_ports (each (λ x. with_queue (put most_queued x.queue change) x) (state_of F.meaning self.old).ports) (state_of F.meaning self.old) }
     {
         self.record(Port::One).note(change);
         self.record(Port::Two).note(change);
@@ -42,7 +42,7 @@ impl<F: Fabric> Unit<F> {
 
     // Raises the mask flag of every port.
     pub(crate) fn flag_all(&mut self)
-        ensures { state_of meaning self.new ≡ with_ports (each (with_mask_flag true) (state_of meaning self.old).ports) (state_of meaning self.old) }
+        ensures { state_of F.meaning self.new ≡ with_ports (each (with_mask_flag true) (state_of F.meaning self.old).ports) (state_of F.meaning self.old) }
     {
         self.record(Port::One).flag();
         self.record(Port::Two).flag();
@@ -51,31 +51,31 @@ impl<F: Fabric> Unit<F> {
 
     // One byte at a port's receiver, and the packet that it ends, if it ends one.
     pub(crate) fn hear(&mut self, port: Port, b: u8) -> Option<Packet>
-        ensures answer { packet_if result ≡ (hear (port_at (state_of meaning self.old) port).receiver b).packet }
-        ensures after { state_of meaning self.new ≡ with_port port (with_receiver (hear (port_at (state_of meaning self.old) port).receiver b).next (port_at (state_of meaning self.old) port)) (state_of meaning self.old) }
+        ensures answer { packet_if result ≡ (hear (port_at (state_of F.meaning self.old) port).receiver b).packet }
+        ensures after { state_of F.meaning self.new ≡ with_port port (with_receiver (hear (port_at (state_of F.meaning self.old) port).receiver b).next (port_at (state_of F.meaning self.old) port)) (state_of F.meaning self.old) }
     {
         self.record(port).hear(b)
     }
 
     // What came so far is dropped.
     pub(crate) fn drop_bytes(&mut self, port: Port)
-        ensures { state_of meaning self.new ≡ with_port port (with_receiver idle (port_at (state_of meaning self.old) port)) (state_of meaning self.old) }
+        ensures { state_of F.meaning self.new ≡ with_port port (with_receiver idle (port_at (state_of F.meaning self.old) port)) (state_of F.meaning self.old) }
     {
         self.record(port).drop_bytes();
     }
 
     // The port's login ends, too.
     pub(crate) fn end_login(&mut self, port: Port)
-        ensures { state_of meaning self.new ≡ with_port port (with_receiver idle (with_login None (port_at (state_of meaning self.old) port))) (state_of meaning self.old) }
+        ensures { state_of F.meaning self.new ≡ with_port port (with_receiver idle (with_login None (port_at (state_of F.meaning self.old) port))) (state_of F.meaning self.old) }
     {
         self.record(port).hang_up();
     }
 
     // Hands the port's queue out, and clears it with its overrun and the mask flag.
     pub(crate) fn take_queue(&mut self, port: Port) -> ChangeQueue
-        ensures answer { queued result ≡ (port_at (state_of meaning self.old) port).queue }
+        ensures answer { queued result ≡ (port_at (state_of F.meaning self.old) port).queue }
         ensures fits { FitsContents (changes (queued result).items) }
-        ensures after { state_of meaning self.new ≡ with_port port (cleared (port_at (state_of meaning self.old) port)) (state_of meaning self.old) }
+        ensures after { state_of F.meaning self.new ≡ with_port port (cleared (port_at (state_of F.meaning self.old) port)) (state_of F.meaning self.old) }
     {
         self.record(port).take_queue()
     }
@@ -83,7 +83,7 @@ impl<F: Fabric> Unit<F> {
     // The port is logged in as the user from now on.
     pub(crate) fn begin_login(&mut self, port: Port, user: u8)
         requires { is_user_number (Some user) ≡ true }
-        ensures { state_of meaning self.new ≡ with_port port (with_login (Some user) (port_at (state_of meaning self.old) port)) (state_of meaning self.old) }
+        ensures { state_of F.meaning self.new ≡ with_port port (with_login (Some user) (port_at (state_of F.meaning self.old) port)) (state_of F.meaning self.old) }
     {
         self.record(port).log_in(user);
     }

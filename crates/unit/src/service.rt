@@ -27,8 +27,8 @@ fn first_password() -> ShortText
 impl<F: Fabric> Unit<F> {
     // Puts a unit in service over a fabric, in whatever state that is. Nothing is routed.
     pub fn start(fabric: F, address: u8, access: bool) -> Unit<F>
-        ensures state { state_of meaning result ≡ service address access (meaning fabric) }
-        ensures reached { Reached address access (meaning fabric) [] (state_of meaning result) }
+        ensures state { state_of F.meaning result ≡ service address access (F.meaning fabric) }
+        ensures reached { Reached address access (F.meaning fabric) [] (state_of F.meaning result) }
     {
         Unit {
             fabric,

@@ -28,16 +28,16 @@ fn may_lock(locked: bool, input: u16, feeding: u16) -> bool
 
 impl<F: Fabric> Unit<F> {
     fn set_lock(&mut self, output: u16, locked: bool)
-        requires { within output (meaning self.old.fabric).outputs ≡ true }
-        ensures { state_of meaning self.new ≡ with_lock output locked (state_of meaning self.old) }
+        requires { within output (F.meaning self.old.fabric).outputs ≡ true }
+        ensures { state_of F.meaning self.new ≡ with_lock output locked (state_of F.meaning self.old) }
     {
         self.locks.set(output, locked);
     }
 
     // The output was on `before` with the lock `was`: the change, if there is one, goes into every queue.
     fn settle(&mut self, output: u16, before: u16, was: bool)
-        requires { within output (meaning self.old.fabric).outputs ≡ true }
-        ensures { state_of meaning self.new ≡ settled (state_of meaning self.old) output before was }
+        requires { within output (F.meaning self.old.fabric).outputs ≡ true }
+        ensures { state_of F.meaning self.new ≡ settled (state_of F.meaning self.old) output before was }
     {
         let input = self.fabric.feeding(output);
         let locked = self.locks.is_locked(output);
@@ -47,9 +47,9 @@ impl<F: Fabric> Unit<F> {
     }
 
     pub(crate) fn set(&mut self, output: u16, input: u16) -> Result<(), SwitchFault>
-        requires { in_range (state_of meaning self.old) output input ≡ true }
-        ensures answer { result ≡ checked (set_fault (state_of meaning self.old) output input) }
-        ensures after { state_of meaning self.new ≡ unless_found (state_of meaning self.old) (set_fault (state_of meaning self.old) output input) (do_set (state_of meaning self.old) output input) }
+        requires { in_range (state_of F.meaning self.old) output input ≡ true }
+        ensures answer { result ≡ checked (set_fault (state_of F.meaning self.old) output input) }
+        ensures after { state_of F.meaning self.new ≡ unless_found (state_of F.meaning self.old) (set_fault (state_of F.meaning self.old) output input) (do_set (state_of F.meaning self.old) output input) }
     {
         let was = self.locks.is_locked(output);
         if was {
@@ -62,9 +62,9 @@ impl<F: Fabric> Unit<F> {
     }
 
     pub(crate) fn lock(&mut self, output: u16, input: u16) -> Result<(), SwitchFault>
-        requires { in_range (state_of meaning self.old) output input ≡ true }
-        ensures answer { result ≡ checked (lock_fault (state_of meaning self.old) output input) }
-        ensures after { state_of meaning self.new ≡ unless_found (state_of meaning self.old) (lock_fault (state_of meaning self.old) output input) (do_lock (state_of meaning self.old) output input) }
+        requires { in_range (state_of F.meaning self.old) output input ≡ true }
+        ensures answer { result ≡ checked (lock_fault (state_of F.meaning self.old) output input) }
+        ensures after { state_of F.meaning self.new ≡ unless_found (state_of F.meaning self.old) (lock_fault (state_of F.meaning self.old) output input) (do_lock (state_of F.meaning self.old) output input) }
     {
         let was = self.locks.is_locked(output);
         let before = self.fabric.feeding(output);
@@ -78,8 +78,8 @@ impl<F: Fabric> Unit<F> {
     }
 
     pub(crate) fn unlock(&mut self, output: u16)
-        requires { within output (meaning self.old.fabric).outputs ≡ true }
-        ensures { state_of meaning self.new ≡ do_unlock (state_of meaning self.old) output }
+        requires { within output (F.meaning self.old.fabric).outputs ≡ true }
+        ensures { state_of F.meaning self.new ≡ do_unlock (state_of F.meaning self.old) output }
     {
         let was = self.locks.is_locked(output);
         let before = self.fabric.feeding(output);
@@ -89,9 +89,9 @@ impl<F: Fabric> Unit<F> {
 
     // Sets or clears a bit of an output's mask, and raises every port's mask flag if it was another.
     pub(crate) fn put_mask(&mut self, output: u16, group: u8, bit: bool)
-        requires fabric_value { within output (meaning self.old.fabric).outputs ≡ true }
+        requires fabric_value { within output (F.meaning self.old.fabric).outputs ≡ true }
         requires group_value { within group 8 ≡ true }
-        ensures { state_of meaning self.new ≡ do_mask (state_of meaning self.old) output group bit }
+        ensures { state_of F.meaning self.new ≡ do_mask (state_of F.meaning self.old) output group bit }
     {
         let altered = self.set_mask_bit(output, group, bit);
         if altered {
@@ -100,10 +100,10 @@ impl<F: Fabric> Unit<F> {
     }
 
     fn set_mask_bit(&mut self, output: u16, group: u8, bit: bool) -> bool
-        requires fabric_value { within output (meaning self.old.fabric).outputs ≡ true }
+        requires fabric_value { within output (F.meaning self.old.fabric).outputs ≡ true }
         requires group_value { within group 8 ≡ true }
-        ensures answer { result ≡ not (same bit ((state_of meaning self.old).masks output group)) }
-        ensures after { state_of meaning self.new ≡ with_mask output group bit (state_of meaning self.old) }
+        ensures answer { result ≡ not (same bit ((state_of F.meaning self.old).masks output group)) }
+        ensures after { state_of F.meaning self.new ≡ with_mask output group bit (state_of F.meaning self.old) }
     {
         self.masks.set(output, group, bit)
     }

@@ -87,16 +87,16 @@ fn may_enter(number: u8, name: &[u8], password: &[u8]) -> bool
 impl<F: Fabric> Unit<F> {
     // Enters a user by number, with the keypad locked or not. Logins stay.
     pub fn enter_user(&mut self, number: u8, name: &[u8], password: &[u8]) -> Result<usize, Refusal>
-        ensures answer { result ≡ (step (state_of meaning self.old) (enter_user number name.now password.now)).answer.result }
-        ensures after { state_of meaning self.new ≡ next (state_of meaning self.old) (enter_user number name.now password.now) }
-        ensures law { (a : ℕ) (on : Bool) (m : Meaning) (h : List Event) → Reached a on m h (state_of meaning self.old) → LawsHold a on m h (plain_event (enter_user number name.now password.now) result) (state_of meaning self.new) }
+        ensures answer { result ≡ (step (state_of F.meaning self.old) (enter_user number name.now password.now)).answer.result }
+        ensures after { state_of F.meaning self.new ≡ next (state_of F.meaning self.old) (enter_user number name.now password.now) }
+        ensures law { (a : ℕ) (on : Bool) (m : Meaning) (h : List Event) → Reached a on m h (state_of F.meaning self.old) → LawsHold a on m h (plain_event (enter_user number name.now password.now) result) (state_of F.meaning self.new) }
     {
         self.try_enter(number, name, password)
     }
 
     fn try_enter(&mut self, number: u8, name: &[u8], password: &[u8]) -> Result<usize, Refusal>
-        ensures answer { result ≡ (step (state_of meaning self.old) (enter_user number name.now password.now)).answer.result }
-        ensures after { state_of meaning self.new ≡ next (state_of meaning self.old) (enter_user number name.now password.now) }
+        ensures answer { result ≡ (step (state_of F.meaning self.old) (enter_user number name.now password.now)).answer.result }
+        ensures after { state_of F.meaning self.new ≡ next (state_of F.meaning self.old) (enter_user number name.now password.now) }
     {
         if !may_enter(number, name, password) {
             return Err(Refusal::WrongUser);
@@ -111,7 +111,7 @@ impl<F: Fabric> Unit<F> {
 
     fn put_user(&mut self, number: u8, user: User)
         requires { within number 8 ≡ true }
-        ensures { state_of meaning self.new ≡ with_user number (user_of user) (state_of meaning self.old) }
+        ensures { state_of F.meaning self.new ≡ with_user number (user_of user) (state_of F.meaning self.old) }
     {
         self.users.enter(number, user);
     }

@@ -1,5 +1,5 @@
 -- What is left decides as all of them do.
-use Rattle.std.proofs.Common.{◌≡◌, not, ◌&&◌, ◌||◌, eqb, leb, drop}
+use Rattle.std.proofs.Common.{◌≡◌, ◌||◌, drop}
 use Rattle.wire.specs.Fields.{is_digit}
 use Rattle.rules.specs.Panel.{is_letter, every}
 use Rattle.unit.proofs.user_entry.are_name_bytes.Given as goal

@@ -1,7 +1,6 @@
 -- What is left decides as all of them do.
-use Rattle.std.proofs.Common.{◌≡◌, not, ◌&&◌, ◌||◌, eqb, leb, drop}
-use Rattle.wire.specs.Fields.{is_digit}
-use Rattle.rules.specs.Panel.{is_letter, every}
+use Rattle.std.proofs.Common.{◌≡◌, not, ◌&&◌, eqb, leb, drop}
+use Rattle.rules.specs.Panel.{every}
 use Rattle.unit.proofs.user_entry.are_password_bytes.Given as goal
 
 abbrev pub invariant-loop-b : goal.invariant-loop-b

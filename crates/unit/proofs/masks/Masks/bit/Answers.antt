@@ -8,5 +8,5 @@ use Rattle.unit.proofs.masks.Masks.bit.Goals as goal
 pub returns : goal.returns
 returns c =
     let s = c.args.self.now in
-    bit_read (get_or s.cells (c.args.output - 1) 0) c.args.group c.requires.1
-    ∙ ap (λ b. mask_bit b c.args.group) (at_inside 256 255 s.cells c.args.output s.whole c.requires.0 0)
+    bit_read (get_or s.cells (c.args.output - 1) 0) c.args.group c.requires.group_value
+    ∙ ap (λ b. mask_bit b c.args.group) (at_inside 256 255 s.cells c.args.output s.whole c.requires.output_value 0)

@@ -20,5 +20,5 @@ returns c =
     let other = differ (masks_of s c.args.output c.args.group) c.args.bit (ap (λ b. beq b c.args.bit) (sym c.bit.ensures) ∙ c.if-bit.false) in
     record {
       answer = other.1;
-      after = bit_written s.cells c.args.output c.args.group s.whole c.requires.0 c.requires.1 c.args.bit other.0;
+      after = bit_written s.cells c.args.output c.args.group s.whole c.requires.output_value c.requires.group_value c.args.bit other.0;
     }

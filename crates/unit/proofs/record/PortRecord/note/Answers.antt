@@ -7,7 +7,10 @@ use Rattle.unit.specs.Small.{are_small}
 use Rattle.unit.proofs.Small.{small_put}
 use Rattle.unit.proofs.record.PortRecord.note.Goals as goal
 
-pub invariant-of-self : goal.invariant-of-self
-invariant-of-self c =
+pub invariant_of-self : goal.invariant_of-self
+invariant_of-self c =
     let s = c.args.self.now in
-    (ap (λ (k : Kept Change). are_small k.items) c.put.ensures ∙ small_put c.args.change c.requires most_queued (queued s.queue) s.small, (s.user, tt))
+    record {
+      small = ap (λ (k : Kept Change). are_small k.items) c.put.ensures ∙ small_put c.args.change c.requires most_queued (queued s.queue) s.small;
+      user = s.user;
+    }

@@ -1,8 +1,8 @@
 -- The feeding input has at most three digits.
 use Rattle.std.proofs.Common.{◌≡◌, ℕ, [], ◌∷◌, None, refl, ap, arith}
-use Rattle.fabric.specs.Means.{few_feeding}
+use Rattle.fabric.proofs.Means.{few_feeding}
 use Rattle.protocol.specs.Commands.{ask_input}
-use Rattle.protocol.specs.Replies.{Reply, ack, feeding_input}
+use Rattle.protocol.specs.Replies.{ack, feeding_input}
 use Rattle.protocol.specs.declared.reply.Reply.TheVariants.{FeedingInput}
 use Rattle.rules.specs.Switching.{first_of}
 use Rattle.rules.specs.Commands.{fault_of}
@@ -14,8 +14,8 @@ pub returns : goal.returns
 returns g c =
     let s = state_of g.F.Fabric.meaning c.args.self.now in
     let sound = g.met.F.Fabric.sound c.args.self.now.fabric in
-    let inside = none_found _ c.check-output.ensures c.in-ok-check-output.was in
-    let free = none_found _ c.check-ethernet.ensures c.in-ok-check-ethernet.was in
+    let inside = none_found _ c.check_output.ensures c.in_ok-check_output.was in
+    let free = none_found _ c.check_ethernet.ensures c.in_ok-check_ethernet.was in
     let none : fault_of s c.args.port (ask_input c.args.output) ≡ None = λ i. first_of (inside i ∷ free i ∷ []) in
-    accepted s c.args.port (ask_input c.args.output) (FeedingInput c.feeding_input.result) _ none (ap (λ (n : ℕ). ack (feeding_input n)) c.feeding_input.ensures) refl
-    (omega (arith, c.feeding_input.ensures, few_feeding s.fabric sound c.args.output))
+    accepted s c.args.port (ask_input c.args.output) (FeedingInput c.feeding-input.result) _ none (ap (λ (n : ℕ). ack (feeding_input n)) c.feeding-input.ensures) refl
+    (omega (arith, c.feeding-input.ensures, few_feeding s.fabric sound c.args.output))

@@ -1,8 +1,8 @@
 -- The feeding input has at most three digits, and the mask is a byte.
-use Rattle.std.proofs.Common.{◌≡◌, ℕ, [], ◌∷◌, None, refl, ap, arith}
-use Rattle.fabric.specs.Means.{few_feeding}
+use Rattle.std.proofs.Common.{◌≡◌, [], ◌∷◌, None, refl, arith}
+use Rattle.fabric.proofs.Means.{few_feeding}
 use Rattle.protocol.specs.Commands.{ask_status}
-use Rattle.protocol.specs.Replies.{Reply, ack, status}
+use Rattle.protocol.specs.Replies.{ack, status}
 use Rattle.protocol.specs.declared.reply.Reply.TheVariants.{Status}
 use Rattle.rules.specs.Switching.{first_of}
 use Rattle.rules.specs.Commands.{fault_of}
@@ -14,9 +14,9 @@ pub returns : goal.returns
 returns g c =
     let s = state_of g.F.Fabric.meaning c.args.self.now in
     let sound = g.met.F.Fabric.sound c.args.self.now.fabric in
-    let inside = none_found _ c.check-output.ensures c.in-ok-check-output.was in
-    let free = none_found _ c.check-ethernet.ensures c.in-ok-check-ethernet.was in
+    let inside = none_found _ c.check_output.ensures c.in_ok-check_output.was in
+    let free = none_found _ c.check_ethernet.ensures c.in_ok-check_ethernet.was in
     let none : fault_of s c.args.port (ask_status c.args.output) ≡ None = λ i. first_of (inside i ∷ free i ∷ []) in
     accepted s c.args.port (ask_status c.args.output) (Status c.feeding.result c.is_locked.result c.byte.result) _ none
     (λ i. ack (status (c.feeding.ensures i) (c.is_locked.ensures i) (c.byte.ensures i))) refl
-    (omega (arith, c.feeding.ensures, few_feeding s.fabric sound c.args.output), c.byte.type-inv)
+    (omega (arith, c.feeding.ensures, few_feeding s.fabric sound c.args.output), c.byte.type_inv)

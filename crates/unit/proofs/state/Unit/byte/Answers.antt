@@ -9,10 +9,10 @@ pub returns : goal.returns
 returns g c =
     let s = state_of g.F.Fabric.meaning c.args.self.now in
     let before = c.args.reply.now in
-    let x = c.take-byte.ensures in
+    let x = c.take_byte.ensures in
     record {
       answer = x.answer;
       buffer = x.buffer;
       after = x.after;
-      law = laws_kept s _ (byte c.args.port c.args.b (length before)) _ (byte_event_is s c.args.port c.args.b before c.take-byte.new.reply c.take-byte.result c.take-byte.auto.reply x.answer x.buffer) x.after;
+      law = laws_kept s _ (byte c.args.port c.args.b (length before)) _ (byte_event_is s c.args.port c.args.b before c.take_byte.new.reply c.take_byte.result c.take_byte.auto.reply x.answer x.buffer) x.after;
     }

@@ -11,9 +11,9 @@ returns g c =
     let u = c.args.number in
     let n = c.args.name.now in
     let w = c.args.password.now in
-    let x = c.try-enter.ensures in
+    let x = c.try_enter.ensures in
     record {
       answer = x.answer;
       after = x.after;
-      law = laws_kept s _ (enter_user u n w) _ (plain_event_is s (enter_user u n w) c.try-enter.result x.answer (panel_silent s (user_refusal u n w) (with_user u (record { name = n; password = w }) s))) x.after;
+      law = laws_kept s _ (enter_user u n w) _ (plain_event_is s (enter_user u n w) c.try_enter.result x.answer (panel_silent s (user_refusal u n w) (with_user u (record { name = n; password = w }) s))) x.after;
     }

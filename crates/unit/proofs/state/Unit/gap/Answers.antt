@@ -7,9 +7,9 @@ use Rattle.unit.proofs.state.Unit.gap.Goals as goal
 pub returns : goal.returns
 returns g c =
     let s = state_of g.F.Fabric.meaning c.args.self.now in
-    let x = c.take-gap.ensures in
+    let x = c.take_gap.ensures in
     record {
       answer = x.answer;
       after = x.after;
-      law = laws_kept s _ (gap c.args.port) _ (plain_event_is s (gap c.args.port) c.take-gap.result x.answer (gap_silent s (port_of c.args.port))) x.after;
+      law = laws_kept s _ (gap c.args.port) _ (plain_event_is s (gap c.args.port) c.take_gap.result x.answer (gap_silent s (port_of c.args.port))) x.after;
     }

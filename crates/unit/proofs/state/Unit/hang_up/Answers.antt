@@ -7,9 +7,9 @@ use Rattle.unit.proofs.state.Unit.hang_up.Goals as goal
 pub returns : goal.returns
 returns g c =
     let s = state_of g.F.Fabric.meaning c.args.self.now in
-    let x = c.take-hang-up.ensures in
+    let x = c.take_hang_up.ensures in
     record {
       answer = x.answer;
       after = x.after;
-      law = laws_kept s _ (hang_up c.args.port) _ (plain_event_is s (hang_up c.args.port) c.take-hang-up.result x.answer (hang_up_silent s (port_of c.args.port))) x.after;
+      law = laws_kept s _ (hang_up c.args.port) _ (plain_event_is s (hang_up c.args.port) c.take_hang_up.result x.answer (hang_up_silent s (port_of c.args.port))) x.after;
     }

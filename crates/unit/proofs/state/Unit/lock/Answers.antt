@@ -1,9 +1,9 @@
 -- The fabric routed, the lock was set, and what changed was noted.
-use Rattle.std.proofs.Common.{◌≡◌, ℕ, true, not, ◌||◌, eqb, None, Option, sym, ap, ◌∙◌, rules}
+use Rattle.std.proofs.Common.{◌≡◌, true, not, ◌||◌, eqb, None, Option, sym, ap, ◌∙◌, rules}
 use Rattle.fabric.specs.Meaning.{Meaning, routed}
-use Rattle.fabric.specs.Means.{after_made, made_by_answer}
-use Rattle.rules.specs.State.{State, with_fabric, with_lock}
-use Rattle.rules.specs.Switching.{may_lock, can_be_made, do_lock}
+use Rattle.fabric.proofs.Means.{after_made}
+use Rattle.rules.specs.State.{with_fabric, with_lock}
+use Rattle.rules.specs.Switching.{may_lock, do_lock}
 use Rattle.unit.specs.declared.fault.SwitchFault.{SwitchFault}
 use Rattle.unit.specs.Switches.{lock_fault, checked, unless_found}
 use Rattle.unit.specs.Units.{state_of, settled}
@@ -18,14 +18,14 @@ returns g c =
     let m = s.fabric in
     let sound = g.met.F.Fabric.sound c.args.self.now.fabric in
     let made : m.makeable o i ≡ true = search rules in
-    let may : may_lock s o i ≡ true = sym (λ j. not (c.is-locked-was.ensures j) || eqb i (c.feeding-before.ensures j)) ∙ sym c.if-not-may-lock.ensures in
+    let may : may_lock s o i ≡ true = sym (λ j. not (c.is_locked-was.ensures j) || eqb i (c.feeding-before.ensures j)) ∙ sym c.if-not-may_lock.ensures in
     let none : lock_fault s o i ≡ None = no_lock_fault s o i may made in
     let routes : g.F.Fabric.meaning c.route.new.self ≡ routed m o i = c.route.ensures.after ∙ after_made m o i made in
     record {
       answer = ap checked (sym none);
       after =
           c.settle.ensures
-          ∙ (λ j. settled (c.set-lock.ensures j) o (c.feeding-before.ensures j) (c.is-locked-was.ensures j))
+          ∙ (λ j. settled (c.set_lock.ensures j) o (c.feeding-before.ensures j) (c.is_locked-was.ensures j))
           ∙ ap (λ (n : Meaning). settled (with_lock o true (with_fabric n s)) o (m.feeding o) (s.locks o)) routes
           ∙ ap (λ (f : Option SwitchFault). unless_found s f (do_lock s o i)) (sym none);
     }

@@ -10,9 +10,9 @@ returns g c =
     let s = state_of g.F.Fabric.meaning c.args.self.now in
     let o = c.args.output in
     let i = c.args.input in
-    let x = c.try-panel-set.ensures in
+    let x = c.try_panel_set.ensures in
     record {
       answer = x.answer;
       after = x.after;
-      law = laws_kept s _ (panel_set o i) _ (plain_event_is s (panel_set o i) c.try-panel-set.result x.answer (panel_silent s (set_refusal s o i) (do_set s o i))) x.after;
+      law = laws_kept s _ (panel_set o i) _ (plain_event_is s (panel_set o i) c.try_panel_set.result x.answer (panel_silent s (set_refusal s o i) (do_set s o i))) x.after;
     }

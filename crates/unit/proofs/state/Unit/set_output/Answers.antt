@@ -1,4 +1,4 @@
-use Rattle.std.proofs.Common.{◌≡◌, Some, None, Option, sym, refl, ap, ◌∙◌}
+use Rattle.std.proofs.Common.{◌≡◌, None, Option, refl, ap, ◌∙◌}
 use Rattle.std.proofs.lemmas.Result.{err_from_is_err_and}
 use Rattle.protocol.specs.Commands.{set_output}
 use Rattle.protocol.specs.declared.reply.Reply.TheVariants.{OutputSet}
@@ -10,14 +10,14 @@ use Rattle.unit.specs.Units.{state_of}
 use Rattle.unit.proofs.Causes.{none_found, one_found, refused_after, accepted}
 use Rattle.unit.proofs.state.Unit.set_output.Goals as goal
 
-pub returns-in-err-try-set : goal.returns-in-err-try-set
-returns-in-err-try-set g c =
+pub returns-in_err-try_set : goal.returns-in_err-try_set
+returns-in_err-try_set g c =
     let s = state_of g.F.Fabric.meaning c.args.self.now in
-    let p = err_from_is_err_and c.from-residual.result c.from-residual.ensures.1 in
-    rw (p.1, p.2) (refused_after s c.args.port (set_output c.args.output c.args.input) _ _ (do_set s c.args.output c.args.input) (one_found _ _ c.try-set.ensures.answer c.in-err-try-set.was) c.try-set.ensures.after)
+    let p = err_from_is_err_and c.from_residual.result c.from_residual.ensures.1 in
+    rw (p.1, p.2) (refused_after s c.args.port (set_output c.args.output c.args.input) _ _ (do_set s c.args.output c.args.input) (one_found _ _ c.try_set.ensures.answer c.in_err-try_set.was) c.try_set.ensures.after)
 
 pub returns : goal.returns
 returns g c =
     let s = state_of g.F.Fabric.meaning c.args.self.now in
-    let found : fault_of s c.args.port (set_output c.args.output c.args.input) ≡ None = none_found _ c.try-set.ensures.answer c.in-ok-try-set.was in
-    accepted s c.args.port (set_output c.args.output c.args.input) OutputSet _ found refl (c.try-set.ensures.after ∙ ap (λ (x : Option CommandFault). unless_found s x (do_set s c.args.output c.args.input)) found) tt
+    let found : fault_of s c.args.port (set_output c.args.output c.args.input) ≡ None = none_found _ c.try_set.ensures.answer c.in_ok-try_set.was in
+    accepted s c.args.port (set_output c.args.output c.args.input) OutputSet _ found refl (c.try_set.ensures.after ∙ ap (λ (x : Option CommandFault). unless_found s x (do_set s c.args.output c.args.input)) found) tt

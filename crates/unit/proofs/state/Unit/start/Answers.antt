@@ -17,5 +17,5 @@ returns g c =
     let m = g.F.Fabric.meaning c.args.fabric in
     let a = c.args.address in
     let on = c.args.access in
-    let state = same_service a on m _ _ _ _ _ _ _ c.new.ensures c.new-2.ensures c.first-password.ensures c.new-3.ensures c.new-4.ensures c.new-5.ensures c.new-6.ensures in
+    let state = same_service a on m _ _ _ _ _ _ _ c.new.ensures c.new-2.ensures c.first_password.ensures c.new-3.ensures c.new-4.ensures c.new-5.ensures c.new-6.ensures in
     record { state = state; reached = subst (λ (s : State). Reached a on m [] s) (sym state) (started a on m (g.met.F.Fabric.sound c.args.fabric)) }

@@ -6,13 +6,13 @@ use Rattle.unit.proofs.users.Users.find.Goals as goal
 
 pub loop-number-preserved : goal.loop-number-preserved
 loop-number-preserved c =
-    passed (users_of c.args.self.now) c.args.name.now c.args.password.now c.loop-number.number c.loop-number.auto.number c.loop-number-test.true (sym c.is_user.ensures ∙ c.if-is-user.false)
+    passed (users_of c.args.self.now) c.args.name.now c.args.password.now c.loop-number.number c.loop-number.auto.number c.loop-number-test.true (sym c.is_user.ensures ∙ c.if-is_user.false)
     ∙ c.loop-number.invariant
 
-pub returns-then-is-user : goal.returns-then-is-user
-returns-then-is-user c =
+pub returns-then-is_user : goal.returns-then-is_user
+returns-then-is_user c =
     record {
-      answer = sym (found (users_of c.args.self.now) c.args.name.now c.args.password.now c.loop-number.number c.loop-number.auto.number c.loop-number-test.true (sym c.is_user.ensures ∙ c.if-is-user.true))
+      answer = sym (found (users_of c.args.self.now) c.args.name.now c.args.password.now c.loop-number.number c.loop-number.auto.number c.loop-number-test.true (sym c.is_user.ensures ∙ c.if-is_user.true))
           ∙ c.loop-number.invariant;
       user = search rules;
     }
