@@ -1,6 +1,5 @@
 -- What the calls of a list show is what the rules say of them, as events and as laws.
 use Rattle.std.proofs.Common.{◌≡◌, ℕ, List, [], ◌∷◌, ◌++◌, map, reverse, Some, None, Option, Result, sym, refl, ap, ◌∙◌, subst}
-use Rattle.fabric.specs.Meaning.{Meaning, Sound}
 use Rattle.wire.specs.Frames.{written}
 use Rattle.rules.specs.declared.port.Port.{Port}
 use Rattle.rules.specs.declared.refusal.Refusal.{Refusal}
@@ -8,7 +7,7 @@ use Rattle.rules.specs.PerPort.{port_of}
 use Rattle.rules.specs.State.{State, with_user}
 use Rattle.rules.specs.Switching.{do_set, do_lock, do_unlock}
 use Rattle.rules.specs.Panel.{set_refusal, lock_refusal, unlock_refusal, user_refusal}
-use Rattle.rules.specs.Calls.{Call, byte, gap, hang_up, panel_set, panel_lock, panel_unlock, enter_user, Answer, gap_step, hang_up_step, unless_refused, step, next, Event, event_at, reply_in, along, transcript, Lent, next_lent}
+use Rattle.rules.specs.Calls.{Call, byte, gap, hang_up, panel_set, panel_lock, panel_unlock, enter_user, gap_step, hang_up_step, unless_refused, step, next, Event, event_at, along, transcript, Lent}
 use Rattle.rules.specs.Table.{table}
 use Rattle.rules.specs.Laws.{QueueAnswersMakeTablesTrue, NamesFeeding, after}
 use Rattle.rules.proofs.Lists.{SizedAnswer, byte_sized}

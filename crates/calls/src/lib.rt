@@ -1,4 +1,6 @@
 // Lists of calls, served by a unit one after the other.
+#![tactic(auto)]
+
 mod list;
 mod serving;
 

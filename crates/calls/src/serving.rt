@@ -14,9 +14,9 @@ use unit::Unit;
 
 fn make<F: Fabric>(unit: &mut Unit<F>, call: &mut Call) -> Result<usize, Refusal>
     ensures same { call_of call.new ≡ call_of call.old }
-    ensures answer { result ≡ (step (state_of meaning unit.old) (call_of call.old)).answer.result }
-    ensures buffer { buffer_of call.new ≡ written (step (state_of meaning unit.old) (call_of call.old)).answer.reply (buffer_of call.old) }
-    ensures after { state_of meaning unit.new ≡ next (state_of meaning unit.old) (call_of call.old) }
+    ensures answer { result ≡ (step (state_of F.meaning unit.old) (call_of call.old)).answer.result }
+    ensures buffer { buffer_of call.new ≡ written (step (state_of F.meaning unit.old) (call_of call.old)).answer.reply (buffer_of call.old) }
+    ensures after { state_of F.meaning unit.new ≡ next (state_of F.meaning unit.old) (call_of call.old) }
 {
     match call {
         Call::Byte { port, byte, reply } => unit.byte(*port, *byte, reply.as_mut_slice()),
@@ -36,14 +36,14 @@ fn make<F: Fabric>(unit: &mut Unit<F>, call: &mut Call) -> Result<usize, Refusal
 // Puts a unit in service over a fabric, in whatever state that is, and makes all calls of the list in order. Each call's answer and
 // buffer are left beside it.
 pub fn serve<F: Fabric>(fabric: F, address: u8, access: bool, calls: &mut [ListedCall]) -> Unit<F>
-    ensures served { map shown calls.new ≡ shown_along (service address access (meaning fabric)) (map lent calls.old) }
-    ensures state { state_of meaning result ≡ final (service address access (meaning fabric)) (map (λ x. call_of x.call) calls.old) }
-    ensures reached { Reached address access (meaning fabric) (reverse (map event calls.new)) (state_of meaning result) }
-    ensures tables { QueueAnswersMakeTablesTrue (service address access (meaning fabric)) (map event calls.new) }
-    ensures outputs { OnNamedInputs (meaning fabric) (reverse (map event calls.new)) (state_of meaning result) }
-    ensures throughout { OutputsStayAsNamed (service address access (meaning fabric)) (map event calls.new) }
-    ensures askers { AskersAreTold (service address access (meaning fabric)) (map event calls.new) }
-    ensures last { LastTableTrue (map event calls.new) (state_of meaning result) }
+    ensures served { map shown calls.new ≡ shown_along (service address access (F.meaning fabric)) (map lent calls.old) }
+    ensures state { state_of F.meaning result ≡ final (service address access (F.meaning fabric)) (map (λ x. call_of x.call) calls.old) }
+    ensures reached { Reached address access (F.meaning fabric) (reverse (map event calls.new)) (state_of F.meaning result) }
+    ensures tables { QueueAnswersMakeTablesTrue (service address access (F.meaning fabric)) (map event calls.new) }
+    ensures outputs { OnNamedInputs (F.meaning fabric) (reverse (map event calls.new)) (state_of F.meaning result) }
+    ensures throughout { OutputsStayAsNamed (service address access (F.meaning fabric)) (map event calls.new) }
+    ensures askers { AskersAreTold (service address access (F.meaning fabric)) (map event calls.new) }
+    ensures last { LastTableTrue (map event calls.new) (state_of F.meaning result) }
 {
     let mut unit = Unit::start(fabric, address, access);
     for c in calls.iter_mut() {

@@ -1,5 +1,5 @@
 -- A byte call's reply stands in the vector that was lent; the calls of the panel bring none.
-use Rattle.std.proofs.Common.{◌≡◌, ℕ, List, [], vec_items, sym, refl, ap, ◌∙◌, rules}
+use Rattle.std.proofs.Common.{ℕ, List, [], vec_items, sym, refl, ap, ◌∙◌, rules}
 use Rattle.std.proofs.lemmas.List.{with_items_is}
 use Rattle.wire.specs.Frames.{written}
 use Rattle.rules.specs.State.{with_user}
@@ -42,8 +42,8 @@ returns-in-EnterUser g c =
     let u = c.in-EnterUser.number in
     let n = vec_items c.in-EnterUser.name in
     let w = vec_items c.in-EnterUser.password in
-    let name = c.as-slice.ensures.value in
-    let password = c.as-slice-in-EnterUser.ensures.value in
+    let name = c.as_slice.ensures.value in
+    let password = c.as_slice-in-EnterUser.ensures.value in
     rw c.in-EnterUser.is (record {
       same = refl;
       answer = c.enter_user.ensures.answer ∙ (λ j. (step s (enter_user u (name j) (password j))).answer.result);

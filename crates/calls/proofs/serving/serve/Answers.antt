@@ -1,13 +1,12 @@
 -- Each turn makes one call as the rules say; at the end the laws hold of the whole list.
-use Rattle.std.proofs.Common.{◌≡◌, List, [], ◌∷◌, ◌++◌, map, reverse, get_or, sym, refl, ap, ◌∙◌, subst, arith, rules}
+use Rattle.std.proofs.Common.{◌≡◌, List, map, reverse, get_or, sym, ap, ◌∙◌, subst, arith}
 use Rattle.rules.specs.State.{State, service}
-use Rattle.rules.specs.Calls.{Call, Event, transcript, final, Lent, next_lent}
-use Rattle.rules.specs.Laws.{Reached, QueueAnswersMakeTablesTrue, OutputsStayAsNamed, AskersAreTold, OnNamedInputs, ShortQueueAnswer, NamesFeeding, after}
+use Rattle.rules.specs.Calls.{Event, transcript, final, Lent, next_lent}
+use Rattle.rules.specs.Laws.{Reached, QueueAnswersMakeTablesTrue, OutputsStayAsNamed, AskersAreTold, after}
 use Rattle.rules.proofs.Lists.{run_begins, run_goes_on, run_ends, final_lent_is}
 use Rattle.rules.proofs.Laws.{reached_by, outputs_named, outputs_as_named, tables_true, askers_told, after-transcript}
 use Rattle.unit.specs.Units.{state_of}
-use Rattle.calls.specs.declared.list.ListedCall.{ListedCall}
-use Rattle.calls.specs.Listed.{Shown, shown_at, shown_along, shown, lent, call_of, buffer_of, event_in, event}
+use Rattle.calls.specs.Listed.{shown_at, shown_along, shown, lent, call_of, buffer_of, event_in, event}
 use Rattle.calls.proofs.Shows.{events_are, map-map, shows_so, last_true}
 use Rattle.calls.proofs.serving.serve.Goals as goal
 
