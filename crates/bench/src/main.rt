@@ -1,4 +1,6 @@
 // Reads pairs (port, byte) from standard input, and prints each reply.
+#![tactic(auto)]
+
 use calls::serve;
 use fabric::Card;
 use std::io;
