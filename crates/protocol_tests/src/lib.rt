@@ -1,4 +1,6 @@
 // Examples of packets and replies, byte by byte. They need no unit.
+#![tactic(auto)]
+
 #[cfg(test)]
 mod tests {
     use protocol::address::is_addressed;
@@ -53,7 +55,7 @@ mod tests {
         let Ok(Command::UnlockEthernet { password }) = decode(b"ELDQuintech") else {
             return Err(Fail::new("another command"));
         };
-        assert_eq!(rt; password, b"Quintech");
+        assert_eq!(rt; password, b"Quintech".as_slice());
         Ok(())
     }
 
