@@ -3,8 +3,9 @@
 
 usage: tools/respell.py [--clashes]      at the top of the repository
 
-tools/respell.tsv has a line for each name: the old and the new one. In .antt files a name is turned wherever it stands in code, and in the first
-column of the lists that head a file; in .rt files in code; in both, and in the pages, wherever it stands between backticks. Strings stay.
+tools/respell.tsv has a line for each name: the old and the new one. In .antt files a name is turned wherever it stands in code, but for what
+follows "c.", which Rattle names, and in the first column of the lists that head a file; in .rt files in code; in both, and in the pages, wherever
+it stands between backticks. Strings stay.
 --clashes changes nothing: it lists the files in which two names would become one.
 """
 
@@ -14,9 +15,9 @@ import sys
 
 TOP = os.path.dirname(os.path.dirname(os.path.realpath(__file__)))
 TABLE = os.path.join(TOP, "tools", "respell.tsv")
-TOKEN = re.compile(r"[^\s(){}\[\];,.\"`«»:]+")
+TOKEN = re.compile(r"(?<!\bc\.)(?<![^\s(){}\[\];,.\"`«»:])[^\s(){}\[\];,.\"`«»:]+")
 TICKS = re.compile(r"`[^`\n]+`")
-HEAD = re.compile(r"^(--   )(\S.*?)(\s{2,})(?=\S)")
+HEAD = re.compile(r"^(--   )(\S.*?)(\s{2,}(?=\S)|$)")
 
 
 def table():
@@ -35,7 +36,7 @@ def in_ticks(names, text):
 def comment(names, text):
     def first_column(m):
         new = turned(names, m.group(2))
-        return m.group(1) + new + m.group(3) + " " * (len(m.group(2)) - len(new))
+        return m.group(1) + new + (m.group(3) and m.group(3) + " " * (len(m.group(2)) - len(new)))
     return in_ticks(names, HEAD.sub(first_column, text))
 
 

@@ -6,7 +6,7 @@
 --   Shown            a call with what came back: the answer, if it was made, and the buffer
 --   shown x          what a call of the list shows
 --   shown_at s l     what a call shows that was made in the state s
---   shown-along s ls the same of all calls of a list
+--   shown_along s ls the same of all calls of a list
 --   answered         the answer of a call; one that was not made counts as accepted without a reply
 --   event_in x       a call with its answer, as it is seen from outside
 --   event x          the same of a call of the list

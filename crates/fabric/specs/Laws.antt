@@ -9,7 +9,7 @@
 --   OtherInputsBehaveAsTheSecond        so does each input of the second fabric, if the inputs of both fit
 --   PastTheLimitTheFirstAlone           if they do not fit, a join is the first fabric, cut to the smaller count of outputs
 --   InputsBehaveAsInTheirFabrics        these three, of a join in whatever state it is
---   LastAcceptedStays m ps end        in end each output is on the input of its last accepted routing of ps, or as it was in m
+--   LastAcceptedStays m ps end          in end each output is on the input of its last accepted routing of ps, or as it was in m
 use Rattle.std.specs.Prelude.{◌≡◌, ℕ, ◌+◌, ◌≤◌, Bool, true, false, cond, ◌≢◌, List, ◌∷◌, ◌++◌, ◌==◌}
 use Rattle.fabric.specs.declared.join.Join.{Join}
 use Rattle.fabric.specs.Meaning.{Meaning, within, after, answer}

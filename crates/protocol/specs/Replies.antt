@@ -14,7 +14,7 @@
 --   read_locked        L or U
 --   read_x             an X: the bytes behind it
 --   bit b k            the bit of b that counts k
---   read_flags, read-version, read-keypad, read-input, read-status, read-changes, read-login, read-logged-in
+--   read_flags, read_version, read_keypad, read_input, read_status, read_changes, read_login, read_logged_in
 --                      what the bytes behind the letters of C, F, KS, O, OS, Q, ZC and ZI say
 --   read_model         the version and model: the bytes behind them
 --   with_entry, read_entries, changes_if   the entries of Q, as many as its digit says, at most eight

@@ -1,6 +1,6 @@
 // The commands, and which command a packet is.
 ghost use Rattle.std.specs.Prelude.{◌≡◌};
-ghost use Rattle.protocol.specs.Receiving.{packet as packet-of};
+ghost use Rattle.protocol.specs.Receiving.{packet as packet_of};
 ghost use Rattle.protocol.specs.Commands.{command_in};
 ghost use Rattle.protocol.specs.Decoding.{outcome};
 
@@ -52,7 +52,7 @@ pub enum Command<'a> {
 
 // The command of a packet whose body is `body`: its check byte has to be right and its list not overrun.
 pub fn command_in<'a>(packet: &Packet, body: &'a [u8]) -> Result<Command<'a>, PacketFault>
-    ensures { outcome result ≡ command_in (packet-of packet.now) body.now }
+    ensures { outcome result ≡ command_in (packet_of packet.now) body.now }
 {
     if !packet.is_right() {
         return Err(PacketFault::WrongCheckByte);

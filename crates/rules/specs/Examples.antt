@@ -11,7 +11,7 @@
 --   table_after, inputs_after, accepted_after   a port's table, the feeding inputs, and what was accepted, after some calls
 --   before_q, at_q          a run in which port 1 learns two inputs, which then change, up to the last byte of its Q; its history
 --   q_event                 that byte
---   Packet-examples, Change-examples, Ethernet-examples, Right-examples, Call-examples, Table-examples, Law-examples
+--   PacketExamples, ChangeExamples, EthernetExamples, RightExamples, CallExamples, TableExamples, LawExamples
 --                           the examples
 use Rattle.std.specs.Prelude.{◌≡◌, ℕ, true, false, not, ◌&&◌, List, [], ◌∷◌, ◌++◌, reverse, replicate, Some, None, Ok, Err, codes, Option, Result, ◌==◌}
 use Prim.Native.String.{String}

@@ -12,7 +12,7 @@
 --   Reached a on m h s         the unit was put in service at address a with access control on or off over a fabric that means m, the
 --                              events of h came since, and its state is s
 --   LawsHold a on m h e s      the laws, at the event e after the history h, which left the unit in s
---   Queue-answers-always-make-tables-true, Outputs-always-stay-as-named, Askers-are-always-told
+--   QueueAnswersAlwaysMakeTablesTrue, OutputsAlwaysStayAsNamed, AskersAreAlwaysTold
 --                              each of the laws, of all lists of calls
 --   LawsHoldAfterEachCall      all of them, for one call more
 use Rattle.std.specs.Prelude.{◌≡◌, ℕ, ◌≤◌, Bool, true, List, [], ◌∷◌, ◌++◌, map, reverse, length, Some}

@@ -43,8 +43,8 @@ module _ {G : Type 0} where
   stopped (Some g) b c rest f e = e
 
 -- the causes of a switching are those of the command
-pub as_command : (may IfOk : Bool) → first_of (unless may CommandLocked ∷ unless IfOk CommandCannotBeMade ∷ []) ≡ option_map command_fault (first_of (unless may OutputLocked ∷ unless IfOk (Route CannotBeMade) ∷ []))
-as_command false IfOk = refl
+pub as_command : (may made : Bool) → first_of (unless may CommandLocked ∷ unless made CommandCannotBeMade ∷ []) ≡ option_map command_fault (first_of (unless may OutputLocked ∷ unless made (Route CannotBeMade) ∷ []))
+as_command false made = refl
 as_command true false = refl
 as_command true true = refl
 
@@ -120,8 +120,8 @@ pub record PanelSo (s u : State) (x : Option Refusal) (r : Result ℕ Refusal) (
   pub after : t ≡ (unless_refused s x u).next
 
 -- the causes of a switching are those of the panel call
-pub as_panel : (may IfOk : Bool) → first_of (unless may PanelLocked ∷ unless IfOk PanelCannotBeMade ∷ []) ≡ option_map panel_fault (first_of (unless may OutputLocked ∷ unless IfOk (Route CannotBeMade) ∷ []))
-as_panel false IfOk = refl
+pub as_panel : (may made : Bool) → first_of (unless may PanelLocked ∷ unless made PanelCannotBeMade ∷ []) ≡ option_map panel_fault (first_of (unless may OutputLocked ∷ unless made (Route CannotBeMade) ∷ []))
+as_panel false made = refl
 as_panel true false = refl
 as_panel true true = refl
 

@@ -2,8 +2,8 @@
 ghost use Rattle.std.specs.Prelude.{◌≡◌, ◌≤◌, true, length, Some, Ok};
 ghost use Rattle.wire.specs.Frames.{written};
 ghost use Rattle.protocol.specs.Commands.{command_in};
-ghost use Rattle.protocol.specs.Decoding.{command as command-of, outcome};
-ghost use Rattle.protocol.specs.Receiving.{packet as packet-of};
+ghost use Rattle.protocol.specs.Decoding.{command as command_of, outcome};
+ghost use Rattle.protocol.specs.Receiving.{packet as packet_of};
 ghost use Rattle.protocol.specs.Replies.{Fits, reply_bytes};
 ghost use Rattle.protocol.specs.Replying.{reply_of};
 ghost use Rattle.wire.specs.Drafts.{sealed};
@@ -24,8 +24,8 @@ use wire::reply::SealedReply;
 
 impl<F: Fabric> Unit<F> {
     fn carry_out(&mut self, port: Port, command: Command<'_>) -> Result<Reply, CommandFault>
-        requires { fits_command (command-of command) ≡ true }
-        ensures { Carried (state_of F.meaning self.old) port (command-of command.entry) result (state_of F.meaning self.new) }
+        requires { fits_command (command_of command) ≡ true }
+        ensures { Carried (state_of F.meaning self.old) port (command_of command.entry) result (state_of F.meaning self.new) }
     {
         match command {
             Command::AskFlags => self.ask_flags(port),
@@ -63,8 +63,8 @@ impl<F: Fabric> Unit<F> {
 
     // What is replied to the packet: the answer, or the letter of the cause.
     fn judge(&mut self, port: Port, packet: &Packet, body: &[u8]) -> Reply
-        ensures answer { reply_of result ≡ reply_to (judged (state_of F.meaning self.old) port (command_in (packet-of packet.now) body.now)).answer }
-        ensures after { state_of F.meaning self.new ≡ (judged (state_of F.meaning self.old) port (command_in (packet-of packet.now) body.now)).next }
+        ensures answer { reply_of result ≡ reply_to (judged (state_of F.meaning self.old) port (command_in (packet_of packet.now) body.now)).answer }
+        ensures after { state_of F.meaning self.new ≡ (judged (state_of F.meaning self.old) port (command_in (packet_of packet.now) body.now)).next }
         ensures fits { Fits (reply_of result) }
     {
         match self.obey(port, command_in(packet, body)) {
@@ -78,9 +78,9 @@ impl<F: Fabric> Unit<F> {
     // Judges a packet and writes the reply to the front of the buffer. Returns the reply's length, 0 for none.
     pub(crate) fn answer_packet(&mut self, port: Port, packet: &Packet, buffer: &mut [u8]) -> usize
         requires { 64 ≤ length buffer.old }
-        ensures answer { Ok result ≡ (packet_step (state_of F.meaning self.old) port (Some (packet-of packet.now))).answer.result }
-        ensures buffer { buffer.new ≡ written (packet_step (state_of F.meaning self.old) port (Some (packet-of packet.now))).answer.reply buffer.old }
-        ensures after { state_of F.meaning self.new ≡ (packet_step (state_of F.meaning self.old) port (Some (packet-of packet.now))).next }
+        ensures answer { Ok result ≡ (packet_step (state_of F.meaning self.old) port (Some (packet_of packet.now))).answer.result }
+        ensures buffer { buffer.new ≡ written (packet_step (state_of F.meaning self.old) port (Some (packet_of packet.now))).answer.reply buffer.old }
+        ensures after { state_of F.meaning self.new ≡ (packet_step (state_of F.meaning self.old) port (Some (packet_of packet.now))).next }
     {
         let Some(parts) = packet.parts() else {
             return 0;

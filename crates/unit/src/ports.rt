@@ -12,7 +12,7 @@ ghost use Rattle.rules.specs.Commands.{cleared};
 ghost use Rattle.unit.specs.Small.{is_user_number};
 ghost use Rattle.unit.specs.Units.{state_of, with_record};
 ghost use Rattle.unit.specs.contracts.state.Unit.{the_row as unit_row};
-ghost use Rattle.unit.specs.contracts.record.PortRecord.{the_row as record-row};
+ghost use Rattle.unit.specs.contracts.record.PortRecord.{the_row as record_row};
 
 use crate::record::PortRecord;
 use crate::state::Unit;
@@ -24,7 +24,7 @@ use rules::port::Port;
 impl<F: Fabric> Unit<F> {
     // The record of a port, lent to be changed in place.
     fn record(&mut self, port: Port) -> &mut PortRecord
-        ensures* follows { sem 𝓛 (follows (unit_row F.row) record-row self.entry.ghost_name result.ghost_name (with_record self.old port)) }
+        ensures* follows { sem 𝓛 (follows (unit_row F.row) record_row self.entry.ghost_name result.ghost_name (with_record self.old port)) }
         ensures value { result.now ≡ at self.old.ports port }
     {
         self.ports.of(port)

@@ -1,5 +1,5 @@
 // How a reply is written.
-ghost use Rattle.std.specs.Prelude.{◌≡◌, ◌+◌, ◌≤◌, ◌&&◌, ltb, ◌∷◌, ◌++◌, length, if◌then◌else◌, Some, None, MatchResult, nat_lt};
+ghost use Rattle.std.specs.Prelude.{◌≡◌, ◌+◌, ◌≤◌, ◌&&◌, ◌∷◌, ◌++◌, length, if◌then◌else◌, Some, None, MatchResult, nat_lt};
 ghost use Rattle.wire.specs.Fields.{three_digits};
 ghost use Rattle.wire.specs.Drafts.{header_byte, sealed};
 ghost use Rattle.wire.specs.Frames.{on_line, most_body};
@@ -48,7 +48,7 @@ fn locked_letter(locked: bool) -> u8
 
 // Inputs and outputs with an X between.
 fn size_digits(inputs: u16, outputs: u16) -> Option<[u8; 7]>
-    ensures { result ≡ (if ltb inputs 1000 && nat_lt outputs 1000 then Some (three_digits inputs ++ 0x58 ∷ three_digits outputs) else None) }
+    ensures { result ≡ (if nat_lt inputs 1000 && nat_lt outputs 1000 then Some (three_digits inputs ++ 0x58 ∷ three_digits outputs) else None) }
 {
     let [a, b, c] = three_digits(inputs)?;
     let [d, e, f] = three_digits(outputs)?;
@@ -109,7 +109,7 @@ fn write_login(
 
 // Output and input of a change, three digits each.
 fn change_digits(change: Change) -> Option<[u8; 6]>
-    ensures { result ≡ (if ltb change.output 1000 && nat_lt change.input 1000 then Some (three_digits change.output ++ three_digits change.input) else None) }
+    ensures { result ≡ (if nat_lt change.output 1000 && nat_lt change.input 1000 then Some (three_digits change.output ++ three_digits change.input) else None) }
 {
     let [a, b, c] = three_digits(change.output)?;
     let [d, e, f] = three_digits(change.input)?;
