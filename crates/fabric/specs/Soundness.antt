@@ -1,7 +1,11 @@
 -- A join of two sound fabrics is sound, and so is a swap of one.
 --
---   join_sound   each law of a sound meaning, of two fabrics as one
---   swap_sound   each law of a sound meaning, of a fabric with two of its input numbers exchanged
+--   within_min         a number within the smaller of two counts is within both
+--   fed_inside         the feeding input of a join is inside its count
+--   join_sound         each law of a sound meaning, of two fabrics as one
+--   within_exchanged   a number exchanged is within the count exactly if it was before
+--   zero_exchanged     0 is never exchanged
+--   swap_sound         each law of a sound meaning, of a fabric with two of its input numbers exchanged
 use Rattle.std.specs.Prelude.{◌≡◌, ℕ, ◌+◌, min, Bool, true, false, cond, ◌&&◌}
 use Rattle.std.proofs.Common.{sym, ap, ◌∙◌, arith}
 use Rattle.std.proofs.lemmas.Bool.Decides.{nat_tests}
