@@ -1,1 +1,3 @@
 pub mod Spaced
+pub mod Pairs
+pub mod Printing

@@ -1,8 +1,9 @@
 // The line that is printed for a reply.
-ghost use Rattle.std.specs.Prelude.{◌≡◌, ◌+◌, ◌∷◌, IfOk};
+ghost use Rattle.std.specs.Prelude.{◌≡◌, ◌+◌, ◌∷◌};
 ghost use Rattle.wire.specs.Fields.{two_hex};
 ghost use Rattle.rules.specs.PerPort.{number_of};
 ghost use Rattle.bench.specs.Lines.{reply_line};
+ghost use Rattle.bench.specs.Memory.{UnlessOutOfMemory};
 
 use rules::port::Port;
 use std::alloc::{AllocError, Global};
@@ -23,7 +24,7 @@ fn spaced_hex(b: u8) -> [u8; 3]
 
 // The port's digit, then each byte as a space and two hexadecimal digits in capitals, then a line feed.
 pub fn reply_line(heap: Global, port: Port, reply: &[u8]) -> Result<Vec<u8>, AllocError>
-    ensures { IfOk result (λ v. v.items ≡ reply_line (number_of port) reply.now) }
+    ensures { UnlessOutOfMemory result (λ v. v.items ≡ reply_line (number_of port) reply.now) }
 {
     let mut line = Vec::new(heap);
     line.push(port_digit(port))?;

@@ -1,63 +1,93 @@
 // A session: pairs of a port and a byte as calls, and the lines of their replies.
+ghost use Rattle.std.specs.Prelude.{◌≡◌, map};
+ghost use Rattle.std.specs.Option.{option_map, option_to_list};
+ghost use Rattle.calls.specs.Listed.{shown, event, events};
+ghost use Rattle.bench.specs.Memory.{UnlessOutOfMemory};
+ghost use Rattle.bench.specs.Sessions.{pair_call, calls_of, not_made, lines_of, printed_for, WorkedPrint};
+
 use crate::line::reply_line;
-use calls::{Call, ListedCall};
+use calls::{Call, ListedCall, serve};
+use fabric::Card;
 use rules::port::Port;
 use std::alloc::{AllocError, Global};
 
 const ROOM: usize = 64;
 
 // The call of a pair: 01 to 03 are a byte at port 1 to 3, 11 to 13 are 200 ms of silence there. Other pairs are none.
-fn call_in(heap: Global, first: u8, byte: u8) -> Result<Option<Call>, AllocError> {
+fn call_in(heap: Global, first: u8, byte: u8) -> Result<Option<ListedCall>, AllocError>
+    ensures { UnlessOutOfMemory result (λ x. option_map shown x ≡ option_map not_made (pair_call first byte)) }
+{
     match first {
-        0x01..=0x03 => Ok(Some(Call::Byte {
-            port: first,
-            byte,
-            reply: vec![in heap; 0; ROOM]?,
+        0x01..=0x03 => Ok(Some(ListedCall {
+            call: Call::Byte {
+                port: first,
+                byte,
+                reply: vec![in heap; 0; ROOM]?,
+            },
+            answer: None,
         })),
-        0x11..=0x13 => Ok(Some(Call::Gap { port: first - 0x10 })),
+        0x11..=0x13 => Ok(Some(ListedCall {
+            call: Call::Gap { port: first - 0x10 },
+            answer: None,
+        })),
         _ => Ok(None),
     }
 }
 
 // The calls of all pairs; an odd last byte is dropped.
-pub fn calls_in(heap: Global, input: &[u8]) -> Result<Vec<ListedCall>, AllocError> {
+fn calls_in(heap: Global, input: &[u8]) -> Result<Vec<ListedCall>, AllocError>
+    ensures { UnlessOutOfMemory result (λ v. map shown v.items ≡ map not_made (calls_of input.now)) }
+{
     let mut calls = Vec::new(heap);
-    for pair in input.chunks_exact(2) {
-        let [first, byte] = pair else {
-            continue;
-        };
+    let mut rest = input;
+    while let [first, byte, behind @ ..] = rest {
         if let Some(call) = call_in(heap, *first, *byte)? {
-            calls.push(ListedCall { call, answer: None })?;
+            calls.push(call)?;
         }
+        rest = behind;
     }
     Ok(calls)
 }
 
-// The line of a call that brought a reply.
-fn line_of(heap: Global, listed: &ListedCall) -> Result<Option<Vec<u8>>, AllocError> {
+// The line of a call that brought a reply; else nothing.
+fn line_of(heap: Global, listed: &ListedCall) -> Result<Vec<u8>, AllocError>
+    ensures { UnlessOutOfMemory result (λ v. v.items ≡ lines_of (option_to_list (event listed.now))) }
+{
     let Call::Byte { port, reply, .. } = &listed.call else {
-        return Ok(None);
+        return Ok(Vec::new(heap));
     };
     let Some(Ok(length)) = listed.answer else {
-        return Ok(None);
+        return Ok(Vec::new(heap));
     };
     let Some(port) = Port::from_number(*port) else {
-        return Ok(None);
+        return Ok(Vec::new(heap));
     };
     let reply = reply.as_slice();
-    if length == 0 || length > reply.len() {
-        return Ok(None);
+    let length = length.min(reply.len());
+    if length == 0 {
+        return Ok(Vec::new(heap));
     }
-    Ok(Some(reply_line(heap, port, &reply[0..length])?))
+    reply_line(heap, port, &reply[0..length])
 }
 
 // The lines of all replies, in the order of the calls.
-pub fn lines(heap: Global, calls: &[ListedCall]) -> Result<Vec<u8>, AllocError> {
+fn lines(heap: Global, calls: &[ListedCall]) -> Result<Vec<u8>, AllocError>
+    ensures { UnlessOutOfMemory result (λ v. v.items ≡ lines_of (events calls.now)) }
+{
     let mut output = Vec::new(heap);
     for listed in calls {
-        if let Some(line) = line_of(heap, listed)? {
-            output.extend_from_slice(line.as_slice())?;
-        }
+        let line = line_of(heap, listed)?;
+        output.extend_from_slice(line.as_slice())?;
     }
     Ok(output)
+}
+
+// All that is printed for the input: its calls are made to a unit at address 00 over a card of eight by eight, with access control off.
+pub fn printed(heap: Global, input: &[u8]) -> Result<Vec<u8>, AllocError>
+    ensures bytes { UnlessOutOfMemory result (λ v. v.items ≡ printed_for input.now) }
+    ensures law { WorkedPrint }
+{
+    let mut calls = calls_in(heap, input)?;
+    let _unit = serve(Card::new(8, 8), 0x00, false, calls.as_mut_slice());
+    lines(heap, calls.as_slice())
 }

@@ -1,5 +1,6 @@
 -- What the calls of a list show is what the rules say of them, as events and as laws.
 use Rattle.std.proofs.Common.{◌≡◌, ℕ, List, [], ◌∷◌, ◌++◌, map, reverse, Some, None, Option, Result, sym, refl, ap, ◌∙◌, subst}
+use Rattle.std.specs.Option.{option_to_list}
 use Rattle.wire.specs.Frames.{written}
 use Rattle.rules.specs.declared.port.Port.{Port}
 use Rattle.rules.specs.declared.refusal.Refusal.{Refusal}
@@ -9,9 +10,9 @@ use Rattle.rules.specs.Switching.{do_set, do_lock, do_unlock}
 use Rattle.rules.specs.Panel.{set_refusal, lock_refusal, unlock_refusal, user_refusal}
 use Rattle.rules.specs.Calls.{Call, byte, gap, hang_up, panel_set, panel_lock, panel_unlock, enter_user, gap_step, hang_up_step, unless_refused, step, next, Event, event_at, along, transcript, Lent}
 use Rattle.rules.specs.Table.{table}
-use Rattle.rules.specs.Laws.{QueueAnswersMakeTablesTrue, NamesFeeding, after}
+use Rattle.rules.specs.Laws.{QueueAnswersMakeTablesTrue, NamesFeeding, state_after}
 use Rattle.rules.proofs.Lists.{SizedAnswer, byte_sized}
-use Rattle.calls.specs.Listed.{Shown, shown_at, shown_along, event_in, LastTableTrue}
+use Rattle.calls.specs.Listed.{Shown, shown_at, shown_along, event_in, events_in, LastTableTrue}
 
 -- a call that brings no reply
 gap_sized : (s : State) (p : Option Port) → SizedAnswer (gap_step s p).answer
@@ -36,19 +37,15 @@ sized s (panel_lock o i) = panel_sized s (lock_refusal s o i) (do_lock s o i)
 sized s (panel_unlock o i) = panel_sized s (unlock_refusal s o i) (do_unlock s o)
 sized s (enter_user u n w) = panel_sized s (user_refusal u n w) (with_user u (record { name = n; password = w }) s)
 
-event_is : (s : State) (l : Lent) → event_in (shown_at s l) ≡ event_at s l.call
-event_is s l = ap (λ (r : List ℕ). record { call = l.call; answer = record { result = (step s l.call).answer.result; reply = r } }) (sized s l.call l.buffer)
+event_is : (s : State) (l : Lent) → event_in (shown_at s l) ≡ Some (event_at s l.call)
+event_is s l = ap (λ (r : List ℕ). Some (record { call = l.call; answer = record { result = (step s l.call).answer.result; reply = r } })) (sized s l.call l.buffer)
 
-pub events_are : (s : State) (ls : List Lent) → map event_in (shown_along s ls) ≡ transcript s (map (λ (l : Lent). l.call) ls)
+pub events_are : (s : State) (ls : List Lent) → events_in (shown_along s ls) ≡ transcript s (map (λ (l : Lent). l.call) ls)
 unfolding along
 events_are s [] = refl
 events_are s (l ∷ ls) =
-    ap (λ (e : Event). e ∷ map event_in (shown_along (next s l.call) ls)) (event_is s l)
+    ap (λ (e : Option Event). option_to_list e ++ events_in (shown_along (next s l.call) ls)) (event_is s l)
     ∙ ap (λ (es : List Event). event_at s l.call ∷ es) (events_are (next s l.call) ls)
-
-pub map-map : {X Y Z : Type 0} (f : X → Y) (h : Y → Z) (xs : List X) → map h (map f xs) ≡ map (λ x. h (f x)) xs
-map-map f h [] = refl
-map-map f h (x ∷ xs) = ap (λ l. h (f x) ∷ l) (map-map f h xs)
 
 -- one call of the list, after it was made
 pub shows_so : (s : State) (c : Call) (before : List ℕ) (d : Call) (r : Result ℕ Refusal) (after : List ℕ) → d ≡ c → r ≡ (step s c).answer.result → after ≡ written (step s c).answer.reply before
@@ -56,7 +53,7 @@ pub shows_so : (s : State) (c : Call) (before : List ℕ) (d : Call) (r : Result
 shows_so s c before d r after same result left = λ i. record { call = same i; answer = Some (result i); buffer = left i }
 
 -- the law of the tables, at the end of the list
-pub last_true : (s : State) (es : List Event) (t : State) → QueueAnswersMakeTablesTrue s es → t ≡ after s es → LastTableTrue es t
+pub last_true : (s : State) (es : List Event) (t : State) → QueueAnswersMakeTablesTrue s es → t ≡ state_after s es → LastTableTrue es t
 last_true s es t law goes before e p cut short =
-    let here : after s (before ++ e ∷ []) ≡ t = ap (after s) (sym cut) ∙ sym goes in
+    let here : state_after s (before ++ e ∷ []) ≡ t = ap (state_after s) (sym cut) ∙ sym goes in
     subst (λ (x : State). NamesFeeding (table p (e ∷ reverse before)) x) here (law before [] e p cut short)

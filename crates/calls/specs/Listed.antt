@@ -6,12 +6,15 @@
 --   Shown            a call with what came back: the answer, if it was made, and the buffer
 --   shown x          what a call of the list shows
 --   shown_at s l     what a call shows that was made in the state s
---   shown_along s ls the same of all calls of a list
---   answered         the answer of a call; one that was not made counts as accepted without a reply
---   event_in x       a call with its answer, as it is seen from outside
---   event x          the same of a call of the list
+--   shown-along s ls the same of all calls of a list
+--   event_if_made    a call with its answer, as it is seen from outside; none if it was not made
+--   event_in x       the event of a call that shows x
+--   event x          the event of a call of the list
+--   events_in xs     the events of all calls that were made, in order
+--   events xs        the same of the calls of a list
 --   LastTableTrue    where the last event is a Q answer of at most seven entries, its port's table is true in the state at the end
-use Rattle.std.specs.Prelude.{◌≡◌, ℕ, List, [], ◌∷◌, ◌++◌, reverse, length, Some, None, Ok, vec_items, Option, Result}
+use Rattle.std.specs.Prelude.{◌≡◌, ℕ, List, [], ◌∷◌, ◌++◌, map, reverse, length, Some, None, vec_items, Option, Result}
+use Rattle.std.specs.Option.{option_to_list}
 use Rattle.wire.specs.Frames.{written}
 use Rattle.rules.specs.declared.refusal.Refusal.{Refusal}
 use Rattle.rules.specs.State.{State}
@@ -58,15 +61,23 @@ shown_at s l = record { call = l.call; answer = Some (step s l.call).answer.resu
 abbrev pub shown_along : State → List Lent → List Shown
 shown_along = along shown_at next_lent
 
-abbrev pub answered : Option (Result ℕ Refusal) → Result ℕ Refusal
-answered None = Ok 0
-answered (Some r) = r
+-- call, buffer, answer
+abbrev pub event_if_made : Call → List ℕ → Option (Result ℕ Refusal) → Option Event
+event_if_made c xs None = None
+event_if_made c xs (Some r) = Some (record { call = c; answer = record { result = r; reply = reply_in r xs } })
 
-abbrev pub event_in : Shown → Event
-event_in x = record { call = x.call; answer = record { result = answered x.answer; reply = reply_in (answered x.answer) x.buffer } }
+abbrev pub event_in : Shown → Option Event
+event_in x = event_if_made x.call x.buffer x.answer
 
-abbrev pub event : ListedCall → Event
+abbrev pub event : ListedCall → Option Event
 event x = event_in (shown x)
+
+abbrev pub events_in : List Shown → List Event
+events_in [] = []
+events_in (x ∷ xs) = option_to_list (event_in x) ++ events_in xs
+
+abbrev pub events : List ListedCall → List Event
+events xs = events_in (map shown xs)
 
 abbrev pub LastTableTrue : List Event → State → Type 0
 LastTableTrue es s = (before : List Event) (e : Event) (p : Port) → es ≡ before ++ e ∷ [] → ShortQueueAnswer p (reverse before) e → NamesFeeding (table p (e ∷ reverse before)) s

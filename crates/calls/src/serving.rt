@@ -2,10 +2,11 @@
 ghost use Rattle.std.specs.Prelude.{◌≡◌, map, reverse};
 ghost use Rattle.wire.specs.Frames.{written};
 ghost use Rattle.rules.specs.State.{service};
-ghost use Rattle.rules.specs.Calls.{step, next, final};
-ghost use Rattle.rules.specs.Laws.{Reached, QueueAnswersMakeTablesTrue, OutputsStayAsNamed, AskersAreTold, OnNamedInputs};
+ghost use Rattle.rules.specs.Calls.{step, next, final, transcript};
+ghost use Rattle.rules.specs.Standing.{standing};
+ghost use Rattle.rules.specs.Laws.{Reached, QueueAnswersMakeTablesTrue, OutputsStayAsNamed, AskersAreTold, RightsHoldThroughout, OnNamedInputs};
 ghost use Rattle.unit.specs.Units.{state_of};
-ghost use Rattle.calls.specs.Listed.{call_of, buffer_of, lent, shown, shown_along, event, LastTableTrue};
+ghost use Rattle.calls.specs.Listed.{call_of, buffer_of, lent, shown, shown_along, events, LastTableTrue};
 
 use crate::list::{Call, ListedCall};
 use fabric::Fabric;
@@ -38,12 +39,15 @@ fn make<F: Fabric>(unit: &mut Unit<F>, call: &mut Call) -> Result<usize, Refusal
 pub fn serve<F: Fabric>(fabric: F, address: u8, access: bool, calls: &mut [ListedCall]) -> Unit<F>
     ensures served { map shown calls.new ≡ shown_along (service address access (F.meaning fabric)) (map lent calls.old) }
     ensures state { state_of F.meaning result ≡ final (service address access (F.meaning fabric)) (map (λ x. call_of x.call) calls.old) }
-    ensures reached { Reached address access (F.meaning fabric) (reverse (map event calls.new)) (state_of F.meaning result) }
-    ensures tables { QueueAnswersMakeTablesTrue (service address access (F.meaning fabric)) (map event calls.new) }
-    ensures outputs { OnNamedInputs (F.meaning fabric) (reverse (map event calls.new)) (state_of F.meaning result) }
-    ensures throughout { OutputsStayAsNamed (service address access (F.meaning fabric)) (map event calls.new) }
-    ensures askers { AskersAreTold (service address access (F.meaning fabric)) (map event calls.new) }
-    ensures last { LastTableTrue (map event calls.new) (state_of F.meaning result) }
+    ensures made { events calls.new ≡ transcript (service address access (F.meaning fabric)) (map (λ x. call_of x.call) calls.old) }
+    ensures reached { Reached address access (F.meaning fabric) (reverse (events calls.new)) (state_of F.meaning result) }
+    ensures tables { QueueAnswersMakeTablesTrue (service address access (F.meaning fabric)) (events calls.new) }
+    ensures outputs { OnNamedInputs (F.meaning fabric) (reverse (events calls.new)) (state_of F.meaning result) }
+    ensures throughout { OutputsStayAsNamed (service address access (F.meaning fabric)) (events calls.new) }
+    ensures askers { AskersAreTold (service address access (F.meaning fabric)) (events calls.new) }
+    ensures standing { state_of F.meaning result ≡ standing address access (F.meaning fabric) (reverse (events calls.new)) }
+    ensures rights { RightsHoldThroughout access (events calls.new) }
+    ensures last { LastTableTrue (events calls.new) (state_of F.meaning result) }
 {
     let mut unit = Unit::start(fabric, address, access);
     for c in calls.iter_mut() {

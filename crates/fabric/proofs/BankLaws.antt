@@ -1,17 +1,17 @@
 -- What the rows and the marks of a bank mean, at the start and after one of them is written.
 use Rattle.std.proofs.Common.{◌≡◌, ℕ, ◌-◌, ◌/◌, ◌^◌, ◌<◌, ◌≤◌, Bool, true, false, cond, not, ◌&&◌, ◌||◌, eqb, List, length, get_or, set, replicate, sym, refl, ap, ◌∙◌, inl, inr, arith, pow_pos}
-use native.Mathlib.Nat.{div-eq_of_lt}
-use lib.Bits.{bit_and, bit_or}
 use Rattle.std.proofs.lemmas.Bool.Decides.{nat_tests}
 use Rattle.std.proofs.lemmas.List.{get_or-set_same, get_or-set_other, get_or-replicate}
 use Rattle.std.proofs.lemmas.Bool.{cases_eq, eq-eqb, ne_eqb}
 use Rattle.std.proofs.lemmas.Nat.{and_mask}
 use Rattle.fabric.specs.Meaning.{within, routed}
 use Rattle.fabric.specs.Cards.{started}
-use Rattle.fabric.specs.Banks.{bank_of, without, closed, is_on, OneClosed, BankSized, AllClosed}
+use Rattle.fabric.specs.Banks.{bank_of, without, closed, is_on, OneClosed, BankSized, AllClosed, relay_row}
 use Rattle.fabric.specs.Laws.{OnlyTheFeedingRelayIsClosed}
-use Rattle.fabric.proofs.Means.{same_meaning}
 use Rattle.fabric.proofs.Relays.{lowest, digit, digit_set}
+use Rattle.fabric.proofs.Means.{same_meaning}
+use native.Mathlib.Nat.{div-eq_of_lt}
+use lib.Bits.{bit_and, bit_or}
 
 -- a row with one relay
 module _ (j : ℕ) (inside : within j 16 ≡ true) where
@@ -56,6 +56,14 @@ module _ (i o : ℕ) (rows bad : List ℕ) (k : ℕ) (inside : within k o ≡ tr
       (λ x y. refl)
 
 module _ (i o : ℕ) (rows bad : List ℕ) (k : ℕ) where
+  pub row_is : within k o ≡ true → AllClosed i o rows → get_or rows (k - 1) 0 ≡ relay_row (bank_of i o rows bad) k
+  row_is inside one =
+      let lt : k - 1 < o = grind (arith, nat_tests) in
+      rw inside (one (k - 1) lt).0
+
+  pub no_row : within k o ≡ false → 0 ≡ relay_row (bank_of i o rows bad) k
+  no_row outside = rw outside
+
   pub row_closed : within k o ≡ true → AllClosed i o rows → OnlyTheFeedingRelayIsClosed (bank_of i o rows bad) k (get_or rows (k - 1) 0)
   row_closed inside one j h =
       let lt : k - 1 < o = grind (arith, nat_tests) in

@@ -1,16 +1,16 @@
--- A routing of one of the two fabrics is one of the join; each input behaves as in the fabric that has it.
-use Rattle.std.specs.Prelude.{◌≡◌, ℕ, ◌+◌, ◌-◌, ◌<◌, ◌≤◌, Bool, true, false, cond, ◌&&◌, leb, Ok, Err, Result, MatchResult, ◌==◌, nat_le, refl}
+-- A join is sound; each input behaves as in the fabric that has it; what a routing leaves in the two fabrics and selects is what it does to the join.
+use Rattle.std.specs.Prelude.{◌≡◌, ℕ, ◌+◌, ◌-◌, ◌<◌, ◌≤◌, Bool, true, false, cond, not, ◌&&◌, leb, ◌==◌, nat_le, refl}
 use Rattle.std.proofs.Common.{sym, ap, ◌∙◌, arith}
 use Rattle.std.proofs.lemmas.Bool.Decides.{nat_tests}
 use Rattle.std.proofs.lemmas.Bool.{and_parts, and_from, le-leb, lt-leb, leb-false, both_ways}
 use Rattle.fabric.specs.Meaning.{Meaning, Sound, within, routed, after, answer}
-use Rattle.fabric.specs.Joins.{joined, fits, all_inputs, fewer, selecting, cut}
-use Rattle.fabric.specs.Kinds.{is_second, side_of}
-use Rattle.fabric.specs.Soundness.{within_min}
-use Rattle.fabric.specs.declared.fault.RouteFault.{RouteFault}
+use Rattle.fabric.specs.Joins.{joined, fits, all_inputs, fewer, covers, selecting, first_after, second_after, selected_after, cut}
 use Rattle.fabric.specs.Laws.{AsTheFirst, AsTheSecond, FirstInputsBehaveAsTheFirst, OtherInputsBehaveAsTheSecond, PastTheLimitTheFirstAlone}
-use Rattle.fabric.specs.declared.join.Side.TheVariants.{First, Second}
-use Rattle.fabric.proofs.Means.{same_meaning, within_le, after_made, after_refused, made_by_answer}
+use Rattle.fabric.specs.Soundness.{within_min}
+use Rattle.fabric.proofs.Means.{same_meaning}
+use Rattle.fabric.proofs.Means.{within_le}
+use Rattle.fabric.proofs.Means.{after_made}
+use Rattle.fabric.proofs.Means.{after_refused}
 
 some_of : (k n : ℕ) → within k n ≡ true → 1 ≤ k
 some_of k n h = grind (arith, nat_tests)
@@ -135,52 +135,47 @@ module _ (a b : Meaning) (second : ℕ → Bool) (sa : Sound a) (sb : Sound b) w
       alone true false l true u h k = absurd (both_ways false refl (h refl))
       alone true false l false u h k = refl
 
--- a routing of the fabric that has the input, before that side is selected
-module _ (a b : Meaning) (second : ℕ → Bool) (sa : Sound a) (sb : Sound b) (o i : ℕ) (output : within o (fewer a b) ≡ true) (input : within i (all_inputs a b) ≡ true) where
-  abbrev Below : Meaning → Meaning → Result (Unit {0}) RouteFault → Type 0
-  Below a' b' r =
-      MatchResult r (λ _. joined a' b' (selecting second o (is_second (side_of a' i))) ≡ after (joined a b second) o i) (λ _. joined a' b' second ≡ after (joined a b second) o i)
+-- a routing of the join, in the fabric that has the input
+module _ (a b : Meaning) (second : ℕ → Bool) (o i : ℕ) where
+  module _ (sa : Sound a) (sb : Sound b) (inside : covers a b o i ≡ true) where
+    output : within o (fewer a b) ≡ true
+    output = (and_parts _ _ inside).0
 
-  pub first_below : leb i a.inputs ≡ true → (r : Result (Unit {0}) RouteFault) (a' : Meaning) → r ≡ answer a o i → a' ≡ after a o i → (r ≡ answer (joined a b second) o i) × Below a' b r
-  first_below h r a' e s = (e ∙ sym law.answers, both r e)
-    where
-      law : AsTheFirst a b second o i
-      law = as_first a b second sa sb o i output (and_from (nat_le 1 i) (nat_le i a.inputs) (le-leb 1 i (some_of i (all_inputs a b) input)) h)
+    input : within i (all_inputs a b) ≡ true
+    input = (and_parts _ _ inside).1
 
-      both : (r : Result (Unit {0}) RouteFault) → r ≡ answer a o i → Below a' b r
-      both (Ok u) e =
-          let made = made_by_answer a o i sa e in
-          ap (λ (x : Meaning). joined x b (selecting second o (is_second (side_of x i)))) (s ∙ after_made a o i made)
-          ∙ ap (λ (t : Bool). joined (routed a o i) b (selecting second o (is_second (cond t First Second)))) h
-          ∙ routed_first a b second o i output
-          ∙ sym (after_made (joined a b second) o i (law.made ∙ made))
-      both (Err f) e =
-          let unmade = made_by_answer a o i sa e in
-          rw (s ∙ after_refused a o i unmade) (sym (after_refused (joined a b second) o i (law.made ∙ unmade)))
+    first_law : leb i a.inputs ≡ true → AsTheFirst a b second o i
+    first_law h = as_first a b second sa sb o i output (and_from (nat_le 1 i) (nat_le i a.inputs) (le-leb 1 i (some_of i (all_inputs a b) input)) h)
 
-  pub second_below : leb i a.inputs ≡ false → (r : Result (Unit {0}) RouteFault) (b' : Meaning) (n : ℕ) → n ≡ a.inputs → r ≡ answer b o (i - n) → b' ≡ after b o (i - n) → (r ≡ answer (joined a b second) o i) × Below a b' r
-  second_below h r b' n count e s = (rw count at e ∙ sym law.answers ∙ ap (answer (joined a b second) o) back, both r (rw count at e))
-    where
+    pub in_first : leb i a.inputs ≡ true → (answer a o i ≡ answer (joined a b second) o i) × (after a o i ≡ first_after a b o i) × (b ≡ second_after a b o i)
+    in_first h = (sym (first_law h).answers, rw (inside, h), rw (inside, h))
+
+    module _ (h : leb i a.inputs ≡ false) where
       back : a.inputs + (i - a.inputs) ≡ i
       back = let above : a.inputs < i = leb-false i a.inputs h in omega arith
 
       has : (fits a b ≡ true) × (within (i - a.inputs) b.inputs ≡ true)
       has = second_has (fits a b) i a.inputs b.inputs input h
 
-      law : AsTheSecond a b second o (i - a.inputs)
-      law = as_second a b second sa sb o (i - a.inputs) output has.0 has.1
+      second_law : AsTheSecond a b second o (i - a.inputs)
+      second_law = as_second a b second sa sb o (i - a.inputs) output has.0 has.1
 
-      made_here : (joined a b second).makeable o i ≡ b.makeable o (i - a.inputs)
-      made_here = ap ((joined a b second).makeable o) (sym back) ∙ law.made
+      pub in_second : (answer b o (i - a.inputs) ≡ answer (joined a b second) o i) × (a ≡ first_after a b o i) × (after b o (i - a.inputs) ≡ second_after a b o i)
+      in_second = (sym second_law.answers ∙ ap (answer (joined a b second) o) back, rw (inside, h), rw (inside, h))
 
-      both : (r : Result (Unit {0}) RouteFault) → r ≡ answer b o (i - a.inputs) → Below a b' r
-      both (Ok u) e =
-          let made = made_by_answer b o (i - a.inputs) sb e in
-          ap (λ (x : Meaning). joined a x (selecting second o (is_second (side_of a i)))) (rw count at s ∙ after_made b o (i - a.inputs) made)
-          ∙ ap (λ (t : Bool). joined a (routed b o (i - a.inputs)) (selecting second o (is_second (cond t First Second)))) h
-          ∙ routed_second a b second o (i - a.inputs) output has.0
-          ∙ ap (routed (joined a b second) o) back
-          ∙ sym (after_made (joined a b second) o i (made_here ∙ made))
-      both (Err f) e =
-          let unmade = made_by_answer b o (i - a.inputs) sb e in
-          rw (rw count at s ∙ after_refused b o (i - a.inputs) unmade) (sym (after_refused (joined a b second) o i (made_here ∙ unmade)))
+  module _ (sa : Sound a) (sb : Sound b) where
+    pub parts_joined : joined (first_after a b o i) (second_after a b o i) (selected_after a b second o i) ≡ after (joined a b second) o i
+    parts_joined = ways (covers a b o i) (nat_le i a.inputs) refl refl
+      where
+        ways : (w l : Bool) → covers a b o i ≡ w → nat_le i a.inputs ≡ l →
+            joined (cond (w && l) (after a o i) a) (cond (w && not l) (after b o (i - a.inputs)) b) (cond ((joined a b second).makeable o i) (selecting second o (not l)) second) ≡ after (joined a b second) o i
+        ways false l e h = rw e
+        ways true true e h =
+            let law = first_law sa sb e h in
+            ap (λ (t : Bool). joined (after a o i) b (cond t (selecting second o false) second)) law.made ∙ sym law.changes
+        ways true false e h =
+            let law = second_law sa sb e h in
+            let same = back sa sb e h in
+            ap (λ (t : Bool). joined a (after b o (i - a.inputs)) (cond t (selecting second o true) second)) (ap ((joined a b second).makeable o) (sym same) ∙ law.made)
+            ∙ sym law.changes
+            ∙ ap (after (joined a b second) o) same

@@ -3,7 +3,7 @@ use Rattle.std.specs.Prelude.{◌≡◌, ℕ, ◌≤◌, Bool, true, false, is_o
 use Rattle.std.proofs.Common.{sym, ap, ◌∙◌, arith}
 use Rattle.std.proofs.lemmas.Bool.Decides.{nat_tests}
 use Rattle.fabric.specs.declared.fault.RouteFault.{RouteFault}
-use Rattle.fabric.specs.Meaning.{Meaning, Sound, within, routed, after, answer}
+use Rattle.fabric.specs.Meaning.{most_inputs, Meaning, Sound, within, routed, after, answer}
 
 pub same_meaning : (a b : Meaning) → a.inputs ≡ b.inputs → a.outputs ≡ b.outputs → ((k : ℕ) → a.feeding k ≡ b.feeding k) → ((k j : ℕ) → a.makeable k j ≡ b.makeable k j) → a ≡ b
 same_meaning a b p q f m = λ t. record { inputs = p t; outputs = q t; feeding = λ k. f k t; makeable = λ k j. m k j t }
@@ -11,10 +11,10 @@ same_meaning a b p q f m = λ t. record { inputs = p t; outputs = q t; feeding =
 pub within_le : (k n : ℕ) → within k n ≡ true → k ≤ n
 within_le k n h = grind (arith, nat_tests)
 
-pub few_feeding : (m : Meaning) → Sound m → (o : ℕ) → m.feeding o ≤ 999
+pub few_feeding : (m : Meaning) → Sound m → (o : ℕ) → m.feeding o ≤ most_inputs
 few_feeding m s o = few (within o m.outputs) refl
   where
-    few : (w : Bool) → within o m.outputs ≡ w → m.feeding o ≤ 999
+    few : (w : Bool) → within o m.outputs ≡ w → m.feeding o ≤ most_inputs
     few true e = omega (arith, within_le (m.feeding o) m.inputs (s.fed o e), s.few_inputs)
     few false e = omega (arith, s.unfed o e)
 

@@ -1,13 +1,14 @@
--- Routings of two outputs in either order, and what a list of routings leaves on an output.
+-- Routings of two outputs in either order, how many of a list are accepted, and what they leave on an output.
 use Rattle.std.proofs.Common.{◌≡◌, ℕ, ◌+◌, ◌<◌, Bool, true, false, cond, not, ◌&&◌, eqb, ◌≢◌, List, [], ◌∷◌, ◌++◌, length, get_or, drop, is_ok, Result, sym, refl, ap, ◌∙◌, arith}
 use Rattle.std.proofs.lemmas.Bool.Decides.{nat_tests}
 use Rattle.std.proofs.lemmas.Bool.{and_parts}
 use Rattle.std.proofs.lemmas.List.{at_drop_more}
 use Rattle.fabric.specs.declared.fault.RouteFault.{RouteFault}
 use Rattle.fabric.specs.Meaning.{Meaning, Sound, routed, after, answer}
-use Rattle.fabric.specs.Plans.{after_all, accepted, sets, none_sets}
-use Rattle.fabric.specs.Laws.{TwoOutputsInEitherOrder, LastAcceptedStays}
-use Rattle.fabric.proofs.Means.{same_meaning, made_by_answer}
+use Rattle.fabric.specs.Plans.{after_all, accepted, can_be_made, makeable_of, sets, none_sets}
+use Rattle.fabric.specs.Laws.{TwoOutputsInEitherOrder, AcceptedAreThoseThatCanBeMade, LastAcceptedStays}
+use Rattle.fabric.proofs.Means.{same_meaning}
+use Rattle.fabric.proofs.Means.{made_by_answer}
 
 -- a routing changes neither the counts nor which pairs can be made
 module _ (m : Meaning) (o i : ℕ) where
@@ -33,6 +34,13 @@ module _ (m : Meaning) (o i : ℕ) where
   made_after : (p j : ℕ) → (after m o i).makeable p j ≡ m.makeable p j
   made_after = made_by (m.makeable o i)
 
+  makeable_by : (b : Bool) (ps : List (ℕ × ℕ)) → makeable_of (cond b (routed m o i) m) ps ≡ makeable_of m ps
+  makeable_by true ps = refl
+  makeable_by false ps = refl
+
+  makeable_after : (ps : List (ℕ × ℕ)) → makeable_of (after m o i) ps ≡ makeable_of m ps
+  makeable_after = makeable_by (m.makeable o i)
+
   fed_by : (b : Bool) (k : ℕ) → (cond b (routed m o i) m).feeding k ≡ cond (eqb k o && b) i (m.feeding k)
   fed_by true k = grind (arith, nat_tests)
   fed_by false k = grind (arith, nat_tests)
@@ -56,6 +64,15 @@ module _ (m : Meaning) (x y : ℕ × ℕ) (apart : x.0 ≢ y.0) where
 
 pub either_order : (m : Meaning) (x y : ℕ × ℕ) → TwoOutputsInEitherOrder m x y
 either_order m x y apart = either_by m x y apart (m.makeable x.0 x.1) (m.makeable y.0 y.1) refl refl
+
+count_by : (t : Bool) (n : ℕ) (p : ℕ × ℕ) (ps : List (ℕ × ℕ)) → n ≡ length ps → cond t 1 0 + n ≡ length (cond t (p ∷ ps) ps)
+count_by true n p ps e = omega arith
+count_by false n p ps e = omega arith
+
+pub as_many_accepted : (m : Meaning) (ps : List (ℕ × ℕ)) → AcceptedAreThoseThatCanBeMade m ps
+as_many_accepted m [] = refl
+as_many_accepted m (p ∷ ps) =
+    count_by (can_be_made m p) (accepted (after m p.0 p.1) ps) p (makeable_of m ps) (as_many_accepted (after m p.0 p.1) ps ∙ ap length (makeable_after m p.0 p.1 ps))
 
 not_set : (k o i : ℕ) (b : Bool) (x : ℕ) → not (eqb o k && b) ≡ true → cond (eqb k o && b) i x ≡ x
 not_set k o i b x h = grind (arith, nat_tests)

@@ -5,8 +5,8 @@ use Rattle.std.proofs.lemmas.Bool.Decides.{nat_tests}
 use Rattle.fabric.specs.declared.fault.RouteFault.{RouteFault}
 use Rattle.fabric.specs.Meaning.{Meaning, routed, after, answer}
 use Rattle.fabric.specs.Swaps.{exchanged, swapped}
+use Rattle.fabric.specs.Laws.{SwappedTwiceIsTheFabricBelow, SwappedRoutesTheExchangedInput}
 use Rattle.fabric.specs.Soundness.{within_exchanged}
-use Rattle.fabric.specs.Laws.{SwappedTwiceIsTheFabricBelow}
 use Rattle.fabric.proofs.Means.{same_meaning}
 
 exchanged_twice : (n p q x : ℕ) → exchanged n p q (exchanged n p q x) ≡ x
@@ -18,24 +18,32 @@ swapped_twice m p q =
     (λ o. exchanged_twice m.inputs p q (m.feeding o))
     (λ o i. ap (m.makeable o) (exchanged_twice m.inputs p q i))
 
-module _ (m : Meaning) (p q o i : ℕ) where
-  swap_answer : answer (swapped m p q) o i ≡ answer m o (exchanged m.inputs p q i)
-  swap_answer = rw (within_exchanged m.inputs p q i)
+module _ (m : Meaning) (p q : ℕ) where
+  module _ (o i : ℕ) where
+    swap_answer : answer (swapped m p q) o i ≡ answer m o (exchanged m.inputs p q i)
+    swap_answer = rw (within_exchanged m.inputs p q i)
 
-  fed_after : (k : ℕ) (b : Bool) → exchanged m.inputs p q (cond b (exchanged m.inputs p q i) (m.feeding k)) ≡ cond b i (exchanged m.inputs p q (m.feeding k))
-  fed_after k true = exchanged_twice m.inputs p q i
-  fed_after k false = refl
+    fed_after : (k : ℕ) (b : Bool) → exchanged m.inputs p q (cond b (exchanged m.inputs p q i) (m.feeding k)) ≡ cond b i (exchanged m.inputs p q (m.feeding k))
+    fed_after k true = exchanged_twice m.inputs p q i
+    fed_after k false = refl
 
-  either_way : (b : Bool) → swapped (cond b (routed m o (exchanged m.inputs p q i)) m) p q ≡ cond b (routed (swapped m p q) o i) (swapped m p q)
-  either_way true =
-      same_meaning (swapped (routed m o (exchanged m.inputs p q i)) p q) (routed (swapped m p q) o i) refl refl
-      (λ k. fed_after k (k == o))
-      (λ k j. refl)
-  either_way false = refl
+    either_way : (b : Bool) → swapped (cond b (routed m o (exchanged m.inputs p q i)) m) p q ≡ cond b (routed (swapped m p q) o i) (swapped m p q)
+    either_way true =
+        same_meaning (swapped (routed m o (exchanged m.inputs p q i)) p q) (routed (swapped m p q) o i) refl refl
+        (λ k. fed_after k (k == o))
+        (λ k j. refl)
+    either_way false = refl
 
-  pub swap_routed : (r : Result (Unit {0}) RouteFault) (m' : Meaning) (x : ℕ) → x ≡ exchanged m.inputs p q i → r ≡ answer m o x → m' ≡ after m o x →
-      (r ≡ answer (swapped m p q) o i) × (swapped m' p q ≡ after (swapped m p q) o i)
-  swap_routed r m' x e answers changes = (
-    answers ∙ ap (answer m o) e ∙ sym swap_answer,
-    ap (λ (n : Meaning). swapped n p q) (changes ∙ ap (after m o) e) ∙ either_way (m.makeable o (exchanged m.inputs p q i)),
-  )
+    swap_changes : after (swapped m p q) o i ≡ swapped (after m o (exchanged m.inputs p q i)) p q
+    swap_changes = sym (either_way (m.makeable o (exchanged m.inputs p q i)))
+
+  pub routes_exchanged : SwappedRoutesTheExchangedInput m p q
+  routes_exchanged = record { answers = swap_answer; changes = swap_changes }
+
+  module _ (o i : ℕ) where
+    pub swap_routed : (r : Result (Unit {0}) RouteFault) (m' : Meaning) (x : ℕ) → x ≡ exchanged m.inputs p q i → r ≡ answer m o x → m' ≡ after m o x →
+        (r ≡ answer (swapped m p q) o i) × (swapped m' p q ≡ after (swapped m p q) o i)
+    swap_routed r m' x e answers changes = (
+      answers ∙ ap (answer m o) e ∙ sym (swap_answer o i),
+      ap (λ (n : Meaning). swapped n p q) (changes ∙ ap (after m o) e) ∙ sym (swap_changes o i),
+    )

@@ -1,9 +1,11 @@
--- What a bank of relays means, over its parts: for output o a row of 16 relays and a row of marks, at o - 1.
+-- What a bank of relays means, over its parts: for output o a row of relays and a row of marks, at o - 1.
 --
+--   most_relays         the most relays of a row, and the most rows: the most inputs and outputs of a bank
 --   is_on row j         the relay of input j, which is bit j - 1 of a row
 --   closed row          the input of the lowest closed relay of a row
 --   OneClosed n row     exactly one relay of the row is closed, and it is one of the first n
 --   bank_of i o xs ys   a bank with the rows xs and the marks ys
+--   relay_row m o       the row of output o, in which the relay of its feeding input alone is closed; no relay for an output outside the count
 --   BankSized i o       the sizes are inside a bank's limits
 --   AllClosed i o xs    of each of the first o rows exactly one relay is closed, and it is one of the first i
 --   new_bank i o        a bank as it starts with no relay marked bad, for the sizes asked for
@@ -14,11 +16,14 @@ use Rattle.std.specs.Int.Count.{count_trailing_zeros}
 use Rattle.fabric.specs.Meaning.{Meaning, within}
 use Rattle.fabric.specs.Cards.{nearest, started}
 
+abbrev pub most_relays : ℕ
+most_relays = 16
+
 abbrev pub is_on : ℕ → ℕ → Bool
 is_on row j = row / 2 ^ (j - 1) % 2 == 1
 
 abbrev pub closed : ℕ → ℕ
-closed row = count_trailing_zeros 16 row + 1
+closed row = count_trailing_zeros most_relays row + 1
 
 abbrev pub OneClosed : ℕ → ℕ → Type 0
 OneClosed n row = (row ≡ 2 ^ (closed row - 1)) × (closed row ≤ n)
@@ -31,14 +36,17 @@ bank_of i o xs ys = record {
   makeable = λ k j. (within k o && within j i) && not (is_on (slice_index ys (k - 1)) j);
 }
 
+abbrev pub relay_row : Meaning → ℕ → ℕ
+relay_row m o = cond (within o m.outputs) (2 ^ (m.feeding o - 1)) 0
+
 abbrev pub BankSized : ℕ → ℕ → Type 0
-BankSized i o = (1 ≤ i) × (i ≤ 16) × (1 ≤ o) × (o ≤ 16)
+BankSized i o = (1 ≤ i) × (i ≤ most_relays) × (1 ≤ o) × (o ≤ most_relays)
 
 abbrev pub AllClosed : ℕ → ℕ → List ℕ → Type 0
 AllClosed i o xs = (k : ℕ) → k < o → OneClosed i (slice_index xs k)
 
 abbrev pub new_bank : ℕ → ℕ → Meaning
-new_bank i o = started (nearest i 16) (nearest o 16)
+new_bank i o = started (nearest i most_relays) (nearest o most_relays)
 
 abbrev pub without : Meaning → ℕ → ℕ → Meaning
 without m o i = record {

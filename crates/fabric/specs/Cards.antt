@@ -7,7 +7,7 @@
 --   CardSized i o    the sizes are inside a card's limits
 --   AllFed i o xs    each of the first o numbers of xs is one of the inputs
 use Rattle.std.specs.Prelude.{◌≡◌, ℕ, ◌-◌, ◌<◌, ◌≤◌, min, max, true, cond, ◌&&◌, List, slice_index}
-use Rattle.fabric.specs.Meaning.{Meaning, within}
+use Rattle.fabric.specs.Meaning.{Meaning, most_inputs, most_outputs, within}
 
 abbrev pub nearest : ℕ → ℕ → ℕ
 nearest k n = max 1 (min k n)
@@ -21,7 +21,7 @@ started i o = record {
 }
 
 abbrev pub new_card : ℕ → ℕ → Meaning
-new_card i o = started (nearest i 999) (nearest o 256)
+new_card i o = started (nearest i most_inputs) (nearest o most_outputs)
 
 abbrev pub card_of : ℕ → ℕ → List ℕ → Meaning
 card_of i o xs = record {
@@ -32,7 +32,7 @@ card_of i o xs = record {
 }
 
 abbrev pub CardSized : ℕ → ℕ → Type 0
-CardSized i o = (1 ≤ i) × (i ≤ 999) × (1 ≤ o) × (o ≤ 256)
+CardSized i o = (1 ≤ i) × (i ≤ most_inputs) × (1 ≤ o) × (o ≤ most_outputs)
 
 abbrev pub AllFed : ℕ → ℕ → List ℕ → Type 0
 AllFed i o xs = (k : ℕ) → k < o → within (slice_index xs k) i ≡ true

@@ -1,17 +1,14 @@
 -- What each kind of fabric means, as a value of its type. What is below a join or a swap comes with its own meaning.
 --
---   card_meaning      a card
---   setup_meaning     the bank that a setup gives
---   bank_meaning      a bank of relays
---   side_of a i       the side that has input i, where a is first
---   is_second         the second side
---   chosen xs o       the second side stands in xs for output o, at o - 1
---   join_meaning      a join, from what its two fabrics mean
---   join_selecting    the same join with a side selected for an output
---   SelectingGives    selecting the side that has the input gives a meaning; after a refusal the join has it already
---   swap_meaning      a swap, from what the fabric below means
-use Rattle.std.specs.Prelude.{◌≡◌, ℕ, ◌-◌, Bool, true, false, cond, ◌&&◌, List, replicate, Result, MatchResult, nat_le, slice_index_or}
-use Rattle.fabric.specs.declared.fault.RouteFault.{RouteFault}
+--   card_meaning    a card
+--   setup_meaning   the bank that a setup gives
+--   bank_meaning    a bank of relays
+--   side_of a i     the side that has input i, where a is first
+--   is_second       the second side
+--   chosen xs o     the second side stands in xs for output o, at o - 1
+--   join_meaning    a join, from what its two fabrics mean
+--   swap_meaning    a swap, from what the fabric below means
+use Rattle.std.specs.Prelude.{ℕ, ◌-◌, Bool, true, false, cond, ◌&&◌, List, replicate, nat_le, slice_index_or}
 use Rattle.fabric.specs.declared.card.Card.{Card}
 use Rattle.fabric.specs.declared.bank.BankSetup.{BankSetup}
 use Rattle.fabric.specs.declared.bank.RelayBank.{RelayBank}
@@ -21,15 +18,15 @@ use Rattle.fabric.specs.declared.join.Side.TheVariants.{First, Second}
 use Rattle.fabric.specs.declared.swap.Swap.{Swap}
 use Rattle.fabric.specs.Meaning.{Meaning}
 use Rattle.fabric.specs.Cards.{card_of}
-use Rattle.fabric.specs.Banks.{bank_of}
-use Rattle.fabric.specs.Joins.{joined, selecting}
+use Rattle.fabric.specs.Banks.{most_relays, bank_of}
+use Rattle.fabric.specs.Joins.{joined}
 use Rattle.fabric.specs.Swaps.{swapped}
 
 abbrev pub card_meaning : Card → Meaning
 card_meaning c = card_of c.inputs c.outputs c.from
 
 abbrev pub setup_meaning : BankSetup → Meaning
-setup_meaning b = bank_of b.inputs b.outputs (replicate 16 1) b.bad
+setup_meaning b = bank_of b.inputs b.outputs (replicate most_relays 1) b.bad
 
 abbrev pub bank_meaning : RelayBank → Meaning
 bank_meaning b = bank_of b.inputs b.outputs b.rows b.bad
@@ -46,13 +43,6 @@ chosen xs o = nat_le 1 o && is_second (slice_index_or xs (o - 1) First)
 
 abbrev pub join_meaning : {F G : Type 0} → (F → Meaning) → (G → Meaning) → Join F G → Meaning
 join_meaning first second j = joined (first j.first) (second j.second) (chosen j.selected)
-
-abbrev pub join_selecting : {F G : Type 0} → (F → Meaning) → (G → Meaning) → Join F G → ℕ → Side → Meaning
-join_selecting first second j o side = joined (first j.first) (second j.second) (selecting (chosen j.selected) o (is_second side))
-
-abbrev pub SelectingGives : {F G : Type 0} → (F → Meaning) → (G → Meaning) → Join F G → ℕ → ℕ → Result (Unit {0}) RouteFault → Meaning → Type 0
-SelectingGives first second j o i r m =
-    MatchResult r (λ _. join_selecting first second j o (side_of (first j.first) i) ≡ m) (λ _. join_meaning first second j ≡ m)
 
 abbrev pub swap_meaning : {F : Type 0} → (F → Meaning) → Swap F → Meaning
 swap_meaning below s = swapped (below s.below) s.p s.q

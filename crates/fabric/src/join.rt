@@ -1,8 +1,8 @@
 // Two fabrics as one: the inputs of the first, then those of the second.
 ghost use Rattle.std.specs.Prelude.{◌≡◌, true, ◌&&◌};
-ghost use Rattle.fabric.specs.Meaning.{within, after, answer};
-ghost use Rattle.fabric.specs.Joins.{fits as both_fit, joined, new_join};
-ghost use Rattle.fabric.specs.Kinds.{is_second, side_of, join_meaning, join_selecting, SelectingGives, chosen};
+ghost use Rattle.fabric.specs.Meaning.{most_outputs, within, answer};
+ghost use Rattle.fabric.specs.Joins.{fits as both_fit, covers, joined, new_join, selecting, first_after, second_after, selected_after};
+ghost use Rattle.fabric.specs.Kinds.{is_second, side_of, chosen, join_meaning};
 ghost use Rattle.fabric.specs.Laws.{InputsBehaveAsInTheirFabrics};
 ghost use Rattle.fabric.specs.Soundness.{join_sound};
 
@@ -26,7 +26,9 @@ pub struct Join<F, G> {
 impl<F: Fabric, G: Fabric> Join<F, G> {
     // The first fabric is selected for every output.
     pub fn new(first: F, second: G) -> Join<F, G>
-        ensures { join_meaning F.Fabric.meaning G.Fabric.meaning result ≡ new_join (F.Fabric.meaning first) (G.Fabric.meaning second) }
+        ensures meaning { join_meaning F.Fabric.meaning G.Fabric.meaning result ≡ new_join (F.Fabric.meaning first) (G.Fabric.meaning second) }
+        ensures first { F.Fabric.meaning result.first ≡ F.Fabric.meaning first }
+        ensures second { G.Fabric.meaning result.second ≡ G.Fabric.meaning second }
     {
         Join::on_side(first, second, Side::First)
     }
@@ -41,7 +43,9 @@ impl<F: Fabric, G: Fabric> Join<F, G> {
 
     // A join with one side selected for every output.
     fn on_side(first: F, second: G, side: Side) -> Join<F, G>
-        ensures { join_meaning F.Fabric.meaning G.Fabric.meaning result ≡ joined (F.Fabric.meaning first) (G.Fabric.meaning second) (λ o. is_second side && within o 256) }
+        ensures meaning { join_meaning F.Fabric.meaning G.Fabric.meaning result ≡ joined (F.Fabric.meaning first) (G.Fabric.meaning second) (λ o. is_second side && within o most_outputs) }
+        ensures first { F.Fabric.meaning result.first ≡ F.Fabric.meaning first }
+        ensures second { G.Fabric.meaning result.second ≡ G.Fabric.meaning second }
     {
         Join {
             first,
@@ -68,11 +72,29 @@ impl<F: Fabric, G: Fabric> Join<F, G> {
         }
     }
 
-    // Routes in the fabric that has the input, and selects nothing.
-    fn route_below(&mut self, output: u16, input: u16) -> Result<(), RouteFault>
-        requires { (within output (join_meaning F.Fabric.meaning G.Fabric.meaning self.old).outputs && within input (join_meaning F.Fabric.meaning G.Fabric.meaning self.old).inputs) ≡ true }
+    // Routes in the fabric that has the input, and selects it for the output if it accepts. The other fabric stays as it is.
+    pub fn route_in_part(&mut self, output: u16, input: u16) -> Result<(), RouteFault>
         ensures answer { result ≡ answer (join_meaning F.Fabric.meaning G.Fabric.meaning self.old) output input }
-        ensures after { SelectingGives F.Fabric.meaning G.Fabric.meaning self.new output input result (after (join_meaning F.Fabric.meaning G.Fabric.meaning self.old) output input) }
+        ensures first { F.Fabric.meaning self.new.first ≡ first_after (F.Fabric.meaning self.old.first) (G.Fabric.meaning self.old.second) output input }
+        ensures second { G.Fabric.meaning self.new.second ≡ second_after (F.Fabric.meaning self.old.first) (G.Fabric.meaning self.old.second) output input }
+        ensures selected { chosen self.new.selected ≡ selected_after (F.Fabric.meaning self.old.first) (G.Fabric.meaning self.old.second) (chosen self.old.selected) output input }
+    {
+        if !is_within(output, self.outputs()) || !is_within(input, self.inputs()) {
+            return Err(RouteFault::OutOfRange);
+        }
+        let side = self.side_of(input);
+        self.route_below(output, input)?;
+        self.select(output, side);
+        Ok(())
+    }
+
+    // The same without selecting.
+    fn route_below(&mut self, output: u16, input: u16) -> Result<(), RouteFault>
+        requires { covers (F.Fabric.meaning self.old.first) (G.Fabric.meaning self.old.second) output input ≡ true }
+        ensures answer { result ≡ answer (join_meaning F.Fabric.meaning G.Fabric.meaning self.old) output input }
+        ensures first { F.Fabric.meaning self.new.first ≡ first_after (F.Fabric.meaning self.old.first) (G.Fabric.meaning self.old.second) output input }
+        ensures second { G.Fabric.meaning self.new.second ≡ second_after (F.Fabric.meaning self.old.first) (G.Fabric.meaning self.old.second) output input }
+        ensures selected { self.new.selected ≡ self.old.selected }
     {
         match self.side_of(input) {
             Side::First => self.first.route(output, input),
@@ -81,8 +103,10 @@ impl<F: Fabric, G: Fabric> Join<F, G> {
     }
 
     fn select(&mut self, output: u16, side: Side)
-        requires { within output 256 ≡ true }
-        ensures { join_meaning F.Fabric.meaning G.Fabric.meaning self.new ≡ join_selecting F.Fabric.meaning G.Fabric.meaning self.old output side }
+        requires { within output most_outputs ≡ true }
+        ensures first { self.new.first ≡ self.old.first }
+        ensures second { self.new.second ≡ self.old.second }
+        ensures selected { chosen self.new.selected ≡ selecting (chosen self.old.selected) output (is_second side) }
     {
         self.selected[output as usize - 1] = side;
     }
@@ -130,11 +154,6 @@ impl<F: Fabric, G: Fabric> Fabric for Join<F, G> {
     }
 
     fn route(&mut self, output: u16, input: u16) -> Result<(), RouteFault> {
-        if !is_within(output, self.outputs()) || !is_within(input, self.inputs()) {
-            return Err(RouteFault::OutOfRange);
-        }
-        self.route_below(output, input)?;
-        self.select(output, self.side_of(input));
-        Ok(())
+        self.route_in_part(output, input)
     }
 }

@@ -2,7 +2,7 @@
 ghost use Rattle.std.specs.Prelude.{◌≡◌};
 ghost use Rattle.fabric.specs.Meaning.{answer, after};
 ghost use Rattle.fabric.specs.Plans.{accepted, after_all};
-ghost use Rattle.fabric.specs.Laws.{TwoOutputsInEitherOrder, LastAcceptedStays};
+ghost use Rattle.fabric.specs.Laws.{TwoOutputsInEitherOrder, AcceptedAreThoseThatCanBeMade, LastAcceptedStays};
 
 use crate::{Fabric, RouteFault};
 
@@ -12,9 +12,9 @@ pub fn route_both<F: Fabric>(
     one: (u16, u16),
     other: (u16, u16),
 ) -> (Result<(), RouteFault>, Result<(), RouteFault>)
-    ensures answer { result ≡ (answer (F.Fabric.meaning fabric.old) one.0 one.1, answer (F.Fabric.meaning fabric.old) other.0 other.1) }
-    ensures after { F.Fabric.meaning fabric.new ≡ after (after (F.Fabric.meaning fabric.old) one.0 one.1) other.0 other.1 }
-    ensures law { TwoOutputsInEitherOrder (F.Fabric.meaning fabric.old) one other }
+    ensures answer { result ≡ (answer (F.meaning fabric.old) one.0 one.1, answer (F.meaning fabric.old) other.0 other.1) }
+    ensures after { F.meaning fabric.new ≡ after (after (F.meaning fabric.old) one.0 one.1) other.0 other.1 }
+    ensures law { TwoOutputsInEitherOrder (F.meaning fabric.old) one other }
 {
     let first = route_pair(fabric, one);
     let second = route_pair(fabric, other);
@@ -23,9 +23,10 @@ pub fn route_both<F: Fabric>(
 
 // Routes each pair of an output and an input in order, going on after a refusal, and says how many were accepted.
 pub fn route_all<F: Fabric>(fabric: &mut F, plan: &[(u16, u16)]) -> usize
-    ensures answer { result ≡ accepted (F.Fabric.meaning fabric.old) plan.now }
-    ensures after { F.Fabric.meaning fabric.new ≡ after_all (F.Fabric.meaning fabric.old) plan.now }
-    ensures law { LastAcceptedStays (F.Fabric.meaning fabric.old) plan.now (F.Fabric.meaning fabric.new) }
+    ensures answer { result ≡ accepted (F.meaning fabric.old) plan.now }
+    ensures after { F.meaning fabric.new ≡ after_all (F.meaning fabric.old) plan.now }
+    ensures count { AcceptedAreThoseThatCanBeMade (F.meaning fabric.old) plan.now }
+    ensures law { LastAcceptedStays (F.meaning fabric.old) plan.now (F.meaning fabric.new) }
 {
     let mut done = 0;
     for pair in plan {
@@ -37,8 +38,8 @@ pub fn route_all<F: Fabric>(fabric: &mut F, plan: &[(u16, u16)]) -> usize
 }
 
 fn route_pair<F: Fabric>(fabric: &mut F, pair: (u16, u16)) -> Result<(), RouteFault>
-    ensures answer { result ≡ answer (F.Fabric.meaning fabric.old) pair.0 pair.1 }
-    ensures after { F.Fabric.meaning fabric.new ≡ after (F.Fabric.meaning fabric.old) pair.0 pair.1 }
+    ensures answer { result ≡ answer (F.meaning fabric.old) pair.0 pair.1 }
+    ensures after { F.meaning fabric.new ≡ after (F.meaning fabric.old) pair.0 pair.1 }
 {
     fabric.route(pair.0, pair.1)
 }

@@ -2,7 +2,7 @@
 ghost use Rattle.std.specs.Prelude.{◌≡◌};
 ghost use Rattle.fabric.specs.Swaps.{exchanged, swapped};
 ghost use Rattle.fabric.specs.Kinds.{swap_meaning};
-ghost use Rattle.fabric.specs.Laws.{SwappedTwiceIsTheFabricBelow};
+ghost use Rattle.fabric.specs.Laws.{SwappedTwiceIsTheFabricBelow, SwappedRoutesTheExchangedInput};
 ghost use Rattle.fabric.specs.Soundness.{swap_sound};
 
 use crate::{Fabric, RouteFault, is_within};
@@ -22,7 +22,15 @@ impl<F: Fabric> Swap<F> {
         Swap { below, p, q }
     }
 
-    // The number that `input` has below, and the other way round.
+    // The number that `input` has in the fabric below.
+    pub fn input_below(&self, input: u16) -> u16
+        ensures answer { result ≡ exchanged (F.Fabric.meaning self.now.below).inputs self.now.p self.now.q input }
+        ensures law { SwappedRoutesTheExchangedInput (F.Fabric.meaning self.now.below) self.now.p self.now.q }
+    {
+        self.across(input)
+    }
+
+    // The same, and the other way round.
     fn across(&self, input: u16) -> u16
         ensures { result ≡ exchanged (F.Fabric.meaning self.now.below).inputs self.now.p self.now.q input }
     {
@@ -66,11 +74,11 @@ impl<F: Fabric> Fabric for Swap<F> {
     }
 
     fn can_make(&self, output: u16, input: u16) -> bool {
-        self.below.can_make(output, self.across(input))
+        self.below.can_make(output, self.input_below(input))
     }
 
     fn route(&mut self, output: u16, input: u16) -> Result<(), RouteFault> {
-        let input = self.across(input);
+        let input = self.input_below(input);
         self.below.route(output, input)?;
         Ok(())
     }

@@ -3,12 +3,12 @@
 
 #[cfg(test)]
 mod tests {
-    use protocol::address::is_addressed;
-    use protocol::change::{Change, ChangeQueue};
-    use protocol::command::{Command, command_in, decode};
-    use protocol::packet::Packet;
-    use protocol::receiver::Receiver;
-    use protocol::reply::{ReadFault, Reply, read_reply, write_reply};
+    use packets::address::is_addressed;
+    use packets::command::{Command, command_in, decode};
+    use packets::packet::Packet;
+    use packets::receiver::Receiver;
+    use replies::change::{Change, ChangeQueue};
+    use replies::reply::{ReadFault, Reply, read_reply, write_reply};
     use std::test::Fail;
     use wire::reply::{CopyFault, Draft, Header};
 

@@ -1,8 +1,10 @@
 -- What a reply tells its reader, and what an event of one byte adds to what is known from outside.
-use Rattle.std.proofs.Common.{◌≡◌, ℕ, ◌<◌, ◌≤◌, Bool, true, false, cond, ◌⊎◌, List, [], ◌∷◌, Some, Ok, Option, sym, refl, ap, ◌∙◌, subst, inl, inr, ⊎_elim, arith}
-use Rattle.protocol.specs.Receiver.{Receiver, hear}
-use Rattle.protocol.specs.Commands.{Command, ask_flags, ask_version, lock_keypad, show_keypad, unlock_keypad, read_queue, lock_ethernet, ask_login, lock_output, set_output, unlock_output, ask_input, ask_status, unlock_ethernet, set_password, set_mask, log_in}
-use Rattle.protocol.specs.Replies.{feeding_input, status, changes, ack, reply_bytes, read_reply, begins_with_ack}
+use Rattle.std.proofs.Common.{◌≡◌, ℕ, ◌<◌, ◌≤◌, Bool, true, false, cond, ◌⊎◌, List, [], ◌∷◌, take, Some, None, Ok, Option, sym, refl, ap, ◌∙◌, subst, inl, inr, ⊎_elim, arith}
+use Rattle.fabric.specs.Meaning.{Meaning}
+use Rattle.packets.specs.Receiver.{Receiver, hear}
+use Rattle.packets.specs.Commands.{Command, ask_flags, ask_version, lock_keypad, show_keypad, unlock_keypad, read_queue, lock_ethernet, ask_login, lock_output, set_output, unlock_output, ask_input, ask_status, unlock_ethernet, set_password, set_mask, log_in}
+use Rattle.replies.specs.Queues.{most_queued}
+use Rattle.replies.specs.Replies.{feeding_input, status, changes, ack, reply_bytes, read_reply, begins_with_ack}
 use Rattle.rules.specs.declared.port.PerPort.{PerPort}
 use Rattle.rules.specs.declared.port.Port.{Port}
 use Rattle.rules.specs.declared.port.Port.TheVariants.{One, Two, Three}
@@ -10,10 +12,11 @@ use Rattle.rules.specs.PerPort.{at, set_at, number_of, port_of}
 use Rattle.rules.specs.State.{State, port_at, is_locked, feeding, mask_byte, with_port, with_receiver}
 use Rattle.rules.specs.Commands.{effect, contents}
 use Rattle.rules.specs.Calls.{byte, Event}
-use Rattle.rules.specs.Table.{Table, Asked, the_input, the_queue, nothing, asked, asked_in, updated, Told, told, told_by, told_in, packet_at, accepted_at, receiver_after, table}
+use Rattle.rules.specs.Table.{Table, Asked, the_input, the_queue, nothing, asked, asked_by, command_of, accepted_command, updated, Told, told, told_by, told_in, packet_at, accepted_at, receiver_after, table}
 use Rattle.rules.specs.History.{Accepted, switched_by, switched_at, with_accepted, accepted_in}
+use Rattle.rules.specs.Standing.{changes_since}
 use Rattle.rules.specs.Laws.{Tells, AskerTold}
-use Rattle.protocol.proofs.ReadBack.{reads_back}
+use Rattle.replies.proofs.ReadBack.{reads_back}
 use Rattle.rules.proofs.Queues.{PortRight}
 use Rattle.rules.proofs.Switchings.{Agrees, both_set, feed_small}
 
@@ -85,13 +88,13 @@ module _ (f₀ : ℕ → ℕ) (s : State) (rs : PerPort Receiver) (ts : PerPort 
   updated_by_reply t (set_mask g b o) = refl
   updated_by_reply t (log_in n w) = refl
 
-  pub tells_by_reply : (c : Command) → Tells (effect s p c) (asked c) (told_by (read_reply (reply_bytes h l (ack (contents s p c)))))
+  pub tells_by_reply : (c : Command) → Tells (effect s p c) (port_at s p).queue.items (asked c) (told_by (read_reply (reply_bytes h l (ack (contents s p c)))))
   tells_by_reply ask_flags = tt
   tells_by_reply ask_version = tt
   tells_by_reply lock_keypad = tt
   tells_by_reply show_keypad = tt
   tells_by_reply unlock_keypad = tt
-  tells_by_reply read_queue = ((port_at s p).queue.items, queue_told, (v.ports p).few)
+  tells_by_reply read_queue = queue_told
   tells_by_reply lock_ethernet = tt
   tells_by_reply ask_login = tt
   tells_by_reply (lock_output o i) = tt
@@ -128,32 +131,32 @@ emptied_by s p (log_in n w) e = absurd (nothing_is_no_queue e)
 
 -- ---- an event of one byte
 
-port_again : (p : Port) → port_of (number_of p) ≡ Some p
+pub port_again : (p : Port) → port_of (number_of p) ≡ Some p
 port_again One = refl
 port_again Two = refl
 port_again Three = refl
 
-either_nothing : (w : Bool) → cond w nothing nothing ≡ nothing
-either_nothing true = refl
-either_nothing false = refl
+pub either_none : (w : Bool) → cond {A = Option Command} w None None ≡ None
+either_none true = refl
+either_none false = refl
 
 module _ (h : List Event) (p : Port) (b room n : ℕ) (ys : List ℕ) where
   abbrev pub heard : Event
   heard = record { call = byte (number_of p) b room; answer = record { result = Ok n; reply = ys } }
 
   -- no other port has a packet of it
-  elsewhere : (q : Port) → (accepted_at q h heard ≡ nothing) ⊎ (p ≡ q)
+  pub elsewhere : (q : Port) → (accepted_command q h heard ≡ None) ⊎ (p ≡ q)
   elsewhere q = by p q
     where
-      by : (p q : Port) → (accepted_at q h (record { call = byte (number_of p) b room; answer = record { result = Ok n; reply = ys } }) ≡ nothing) ⊎ (p ≡ q)
+      by : (p q : Port) → (accepted_command q h (record { call = byte (number_of p) b room; answer = record { result = Ok n; reply = ys } }) ≡ None) ⊎ (p ≡ q)
       by One One = inr refl
-      by One Two = inl (either_nothing (begins_with_ack ys))
-      by One Three = inl (either_nothing (begins_with_ack ys))
-      by Two One = inl (either_nothing (begins_with_ack ys))
+      by One Two = inl (either_none (begins_with_ack ys))
+      by One Three = inl (either_none (begins_with_ack ys))
+      by Two One = inl (either_none (begins_with_ack ys))
       by Two Two = inr refl
-      by Two Three = inl (either_nothing (begins_with_ack ys))
-      by Three One = inl (either_nothing (begins_with_ack ys))
-      by Three Two = inl (either_nothing (begins_with_ack ys))
+      by Two Three = inl (either_none (begins_with_ack ys))
+      by Three One = inl (either_none (begins_with_ack ys))
+      by Three Two = inl (either_none (begins_with_ack ys))
       by Three Three = inr refl
 
   pub accepted_as : (a : Asked) → accepted_at p h heard ≡ a → accepted_in (heard ∷ h) ≡ with_accepted (switched_by a) (accepted_in h)
@@ -164,8 +167,11 @@ module _ (h : List Event) (p : Port) (b room n : ℕ) (ys : List ℕ) where
 
   -- the reply, if there is one, does not begin with ACK
   module _ (e : begins_with_ack ys ≡ false) where
+    pub no_command : (q : Port) → accepted_command q h heard ≡ None
+    no_command q = ap (λ (x : Bool). cond x (command_of (packet_at q h heard)) None) e
+
     pub without_ack : (q : Port) → accepted_at q h heard ≡ nothing
-    without_ack q = ap (λ (x : Bool). cond x (asked_in (packet_at q h heard)) nothing) e
+    without_ack q = ap asked_by (no_command q)
 
     pub tables_without_ack : tables (heard ∷ h) ≡ tables h
     unfolding table
@@ -178,20 +184,20 @@ module _ (h : List Event) (p : Port) (b room n : ℕ) (ys : List ℕ) where
     pub emptied_without_ack : (t : State) → Emptied h heard t
     emptied_without_ack t q a = absurd (nothing_is_no_queue (sym (without_ack q) ∙ a))
 
-    pub told_without_ack : (t : State) → AskerTold h heard t
-    told_without_ack t q = subst (λ (a : Asked). Tells t a (told_in heard)) (sym (without_ack q)) tt
+    pub told_without_ack : (m : Meaning) (t : State) → AskerTold m h heard t
+    told_without_ack m t q = subst (λ (a : Asked). Tells t (take most_queued (changes_since m q h)) a (told_in heard)) (sym (without_ack q)) tt
 
   -- the packet that the byte ended was accepted, and asked for a
   module _ (a : Asked) (e : accepted_at p h heard ≡ a) where
     pub emptied_with_ack : (t : State) → (a ≡ the_queue → (port_at t p).queue.items ≡ []) → Emptied h heard t
     emptied_with_ack t g q f =
-        ⊎_elim (λ z. absurd (nothing_is_no_queue (sym z ∙ f)))
+        ⊎_elim (λ z. absurd (nothing_is_no_queue (sym (ap asked_by z) ∙ f)))
         (λ z. subst (λ (q : Port). accepted_at q h heard ≡ the_queue → (port_at t q).queue.items ≡ []) z (λ f. g (sym e ∙ f)) f) (elsewhere q)
 
-    pub told_with_ack : (t : State) → Tells t a (told_in heard) → AskerTold h heard t
-    told_with_ack t g q =
-        ⊎_elim (λ z. subst (λ (x : Asked). Tells t x (told_in heard)) (sym z) tt)
-        (λ z. subst (λ (q : Port). Tells t (accepted_at q h heard) (told_in heard)) z (subst (λ (x : Asked). Tells t x (told_in heard)) (sym e) g)) (elsewhere q)
+    pub told_with_ack : (m : Meaning) (t : State) → Tells t (take most_queued (changes_since m p h)) a (told_in heard) → AskerTold m h heard t
+    told_with_ack m t g q =
+        ⊎_elim (λ z. subst (λ (x : Asked). Tells t (take most_queued (changes_since m q h)) x (told_in heard)) (sym (ap asked_by z)) tt)
+        (λ z. subst (λ (q : Port). Tells t (take most_queued (changes_since m q h)) (accepted_at q h heard) (told_in heard)) z (subst (λ (x : Asked). Tells t (take most_queued (changes_since m p h)) x (told_in heard)) (sym e) g)) (elsewhere q)
 
 module _ (h : List Event) (b room n : ℕ) (ys : List ℕ) where
   pub receivers_heard : (p : Port) (r : Receiver) → (hear (receiver_after p h) b).next ≡ r → receivers (heard h p b room n ys ∷ h) ≡ set_at (receivers h) p r
@@ -200,13 +206,13 @@ module _ (h : List Event) (b room n : ℕ) (ys : List ℕ) where
   receivers_heard Two r e = λ i. record { one = receiver_after One h; two = e i; three = receiver_after Three h }
   receivers_heard Three r e = λ i. record { one = receiver_after One h; two = receiver_after Two h; three = e i }
 
-  pub accepted_own : (p : Port) (a : Asked) → asked_in (hear (receiver_after p h) b).packet ≡ a → begins_with_ack ys ≡ true → accepted_at p h (heard h p b room n ys) ≡ a
-  accepted_own One a k e = ap (λ (x : Bool). cond x (asked_in (packet_at One h (heard h One b room n ys))) nothing) e ∙ k
-  accepted_own Two a k e = ap (λ (x : Bool). cond x (asked_in (packet_at Two h (heard h Two b room n ys))) nothing) e ∙ k
-  accepted_own Three a k e = ap (λ (x : Bool). cond x (asked_in (packet_at Three h (heard h Three b room n ys))) nothing) e ∙ k
+  pub command_own : (p : Port) (c : Option Command) → command_of (hear (receiver_after p h) b).packet ≡ c → begins_with_ack ys ≡ true → accepted_command p h (heard h p b room n ys) ≡ c
+  command_own One c k e = ap (λ (x : Bool). cond x (command_of (packet_at One h (heard h One b room n ys))) None) e ∙ k
+  command_own Two c k e = ap (λ (x : Bool). cond x (command_of (packet_at Two h (heard h Two b room n ys))) None) e ∙ k
+  command_own Three c k e = ap (λ (x : Bool). cond x (command_of (packet_at Three h (heard h Three b room n ys))) None) e ∙ k
 
-  none : (t : Table) (m : Told) → updated t (cond (begins_with_ack ys) nothing nothing) m ≡ t
-  none t m = ap (λ (x : Asked). updated t x m) (either_nothing (begins_with_ack ys))
+  none : (t : Table) (m : Told) → updated t (asked_by (cond (begins_with_ack ys) None None)) m ≡ t
+  none t m = ap (λ (x : Option Command). updated t (asked_by x) m) (either_none (begins_with_ack ys))
 
   pub tables_with_ack : (p : Port) (a : Asked) → accepted_at p h (heard h p b room n ys) ≡ a
       → tables (heard h p b room n ys ∷ h) ≡ set_at (tables h) p (updated (at (tables h) p) a (told_in (heard h p b room n ys)))

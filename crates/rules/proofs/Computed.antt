@@ -4,7 +4,7 @@ use Rattle.rules.specs.Calls.{along, ending}
 use Rattle.rules.specs.Table.{table, receiver_after}
 use Rattle.rules.specs.History.{accepted_in}
 use Rattle.rules.specs.Cases.{WorkedCases, answers_to}
-use Rattle.rules.specs.Examples.{PacketExamples, ChangeExamples, EthernetExamples, RightExamples, CallExamples, TableExamples, LawExamples, results, table_after, accepted_after, inputs_after}
+use Rattle.rules.specs.Examples.{PacketExamples, ChangeExamples, EthernetExamples, RightExamples, CallExamples, BoundExamples, TableExamples, LawExamples, results, table_after, accepted_after, inputs_after}
 
 pub worked : WorkedCases
 unfolding answers_to ending
@@ -29,6 +29,10 @@ right_examples = record { logins = refl; smallest_user = refl; name_of_now = ref
 pub call_examples : CallExamples
 unfolding answers_to results ending
 call_examples = record { buffer_first = refl; nothing_written = refl; beyond_the_reply = refl; refused_byte_is_not_heard = refl; panel_order = refl; panel_locks = refl; users = refl }
+
+pub bound_examples : BoundExamples
+unfolding answers_to results
+bound_examples = record { sizes = refl; panel_sizes = refl; masks = refl; last_user = refl; range_first = refl; other_password = refl; letters = refl }
 
 pub table_examples : TableExamples
 unfolding table_after accepted_after receiver_after

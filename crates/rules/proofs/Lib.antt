@@ -1,8 +1,13 @@
 pub mod Queues
 pub mod Switchings
+pub mod Standing
 pub mod Commands
+pub mod Causes
+pub mod Rights
 pub mod Bytes
+pub mod Seen
 pub mod Calls
 pub mod Laws
+pub mod Refusals
 pub mod Computed
 pub mod Lists

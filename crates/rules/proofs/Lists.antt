@@ -1,16 +1,16 @@
 -- Lists of calls with their reply buffers: what each call shows is what the rules say, and one turn of a loop goes on with the whole list.
 use Rattle.std.proofs.Common.{◌≡◌, ℕ, ◌+◌, ◌<◌, ◌≤◌, Bool, true, false, cond, ltb, List, [], ◌∷◌, ◌++◌, map, length, get_or, take, drop, set, Some, None, Option, Result, sym, refl, ap, ◌∙◌, arith}
-use lib.Seq.{take-append_seam}
 use Rattle.std.proofs.lemmas.List.{take_more_set, drop_more, drop-set-lt, map_push, append_assoc, append-nil, drop_all, take_all}
 use Rattle.wire.specs.Frames.{written}
-use Rattle.protocol.specs.Address.{Parts, parts, matches}
-use Rattle.protocol.specs.Receiver.{Packet, hear}
+use Rattle.packets.specs.Address.{Parts, parts, matches}
+use Rattle.packets.specs.Receiver.{Packet, hear}
 use Rattle.rules.specs.declared.port.Port.{Port}
 use Rattle.rules.specs.declared.refusal.Refusal.{Refusal}
 use Rattle.rules.specs.declared.refusal.Refusal.TheVariants.{ShortBuffer}
 use Rattle.rules.specs.PerPort.{port_of}
 use Rattle.rules.specs.State.{State, port_at, with_port, with_receiver}
-use Rattle.rules.specs.Calls.{byte, Answer, Outcome, Event, refused, if_matching, if_addressed, packet_step, byte_step, shortest_buffer, step, event_at, reply_in, byte_event, along, ending, transcript, final, Lent, Served, next_lent, served, final_lent}
+use Rattle.rules.specs.Calls.{byte, Answer, Outcome, refused, if_matching, if_addressed, packet_step, byte_step, shortest_buffer, step, event_at, reply_in, byte_event, along, ending, final, Lent, next_lent}
+use lib.Seq.{take-append_seam}
 
 -- ---- a byte call by what came back
 
@@ -52,12 +52,7 @@ byte_event_is s n b before after r long result left =
 
 -- ---- lists with buffers
 
-pub served_events : (s : State) (ls : List Lent) → map (λ (x : Served). x.event) (served s ls) ≡ transcript s (map (λ (l : Lent). l.call) ls)
-unfolding along
-served_events s [] = refl
-served_events s (l ∷ ls) = ap (λ (es : List Event). event_at s l.call ∷ es) (served_events (next_lent s l) ls)
-
-pub final_lent_is : (s : State) (ls : List Lent) → final_lent s ls ≡ final s (map (λ (l : Lent). l.call) ls)
+pub final_lent_is : (s : State) (ls : List Lent) → ending next_lent s ls ≡ final s (map (λ (l : Lent). l.call) ls)
 unfolding ending
 final_lent_is s [] = refl
 final_lent_is s (l ∷ ls) = final_lent_is (next_lent s l) ls

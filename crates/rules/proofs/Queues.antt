@@ -6,9 +6,9 @@ use Rattle.std.proofs.lemmas.Bool.{leb-true, ltb-false, ltb-true}
 use Rattle.std.proofs.lemmas.Bool.Decides.{nat_tests}
 use Rattle.std.specs.List.{AllByRecursion}
 use Rattle.wire.specs.Kept.{Kept}
-use Rattle.protocol.specs.declared.change.Change.{Change}
-use Rattle.protocol.specs.Receiver.{Receiver}
-use Rattle.protocol.specs.Replies.{SmallChange}
+use Rattle.replies.specs.declared.change.Change.{Change}
+use Rattle.packets.specs.Receiver.{Receiver}
+use Rattle.replies.specs.Replies.{SmallChange}
 use Rattle.rules.specs.State.{PortState}
 use Rattle.rules.specs.Switching.{note_if}
 use Rattle.rules.specs.Commands.{cleared}

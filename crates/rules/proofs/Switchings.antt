@@ -3,7 +3,7 @@ use Rattle.std.proofs.Common.{◌≡◌, ℕ, ◌<◌, ◌≤◌, Bool, true, fa
 use Rattle.std.proofs.lemmas.Bool.{eqb-true, eq-eqb, and_parts, not-false}
 use Rattle.std.proofs.lemmas.Bool.Decides.{nat_tests}
 use Rattle.fabric.specs.Meaning.{Meaning, Sound, within, routed}
-use Rattle.protocol.specs.Receiver.{Receiver}
+use Rattle.packets.specs.Receiver.{Receiver}
 use Rattle.rules.specs.declared.port.PerPort.{PerPort}
 use Rattle.rules.specs.declared.port.Port.{Port}
 use Rattle.rules.specs.declared.port.Port.TheVariants.{One, Two, Three}

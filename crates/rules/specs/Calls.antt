@@ -4,8 +4,8 @@
 --   refusal_number        the number of a refusal
 --   Answer                the length of the reply (0 for none, and for every other call) or a refusal; and the bytes of the reply
 --   Outcome               the state after a call, and its answer
---   replied, accepted, refused   a call that brings a reply; that returns 0; that is refused and changes nothing
---   answered h l x        a judged packet, replied to with the address bytes h and l
+--   replied, without_reply, refused   a call that brings a reply; that returns 0; that is refused and changes nothing
+--   judged_outcome h l x        a judged packet, replied to with the address bytes h and l
 --   if_matching, if_addressed, packet_step   a packet: its address, the parts of what was listed, if it ended
 --   heard_step            a byte at a port: the receiver goes on first, and then the packet that it ended is judged
 --   byte_step, gap_step, hang_up_step   the calls of a port
@@ -20,17 +20,12 @@
 --   transcript s cs       the calls cs with their answers
 --   final s cs            the state after them
 --   Lent                  a call with its reply buffer, as it is lent: empty for every call but a byte
---   Served                a call with its answer and its reply buffer, as it comes back
---   served_at s l         one such call in the state s
 --   next_lent s l         the state after it
---   served s ls           all such calls of a list
---   final_lent s ls       the state after them
 use Rattle.std.specs.Prelude.{ℕ, Bool, true, false, cond, List, [], ◌∷◌, length, take, Some, None, Ok, Err, Option, Result, nat_lt}
-use Rattle.wire.specs.Frames.{written}
-use Rattle.protocol.specs.Address.{Parts, parts, matches}
-use Rattle.protocol.specs.Commands.{command_in}
-use Rattle.protocol.specs.Receiver.{idle, Packet, Heard, hear}
-use Rattle.protocol.specs.Replies.{reply_bytes}
+use Rattle.packets.specs.Address.{Parts, parts, matches}
+use Rattle.packets.specs.Commands.{command_in}
+use Rattle.packets.specs.Receiver.{idle, Packet, Heard, hear}
+use Rattle.replies.specs.Replies.{reply_bytes}
 use Rattle.rules.specs.declared.port.Port.{Port}
 use Rattle.rules.specs.declared.refusal.Refusal.{Refusal}
 use Rattle.rules.specs.declared.refusal.Refusal.TheVariants.{ShortBuffer, NoSuchPort, NoSuchOutput, NoSuchInput, KeypadLocked, OutputLocked, CannotBeMade, WrongUser}
@@ -71,27 +66,27 @@ pub record Outcome : Type 0 where
 abbrev pub replied : State → List ℕ → Outcome
 replied s r = record { next = s; answer = record { result = Ok (length r); reply = r } }
 
-abbrev pub accepted : State → Outcome
-accepted s = record { next = s; answer = record { result = Ok 0; reply = [] } }
+abbrev pub without_reply : State → Outcome
+without_reply s = record { next = s; answer = record { result = Ok 0; reply = [] } }
 
 abbrev pub refused : State → Refusal → Outcome
 refused s r = record { next = s; answer = record { result = Err r; reply = [] } }
 
 -- ---- the calls of a port
 
-abbrev pub answered : ℕ → ℕ → Judged → Outcome
-answered h l x = replied x.next (reply_bytes h l (reply_to x.answer))
+abbrev pub judged_outcome : ℕ → ℕ → Judged → Outcome
+judged_outcome h l x = replied x.next (reply_bytes h l (reply_to x.answer))
 
 abbrev pub if_matching : Bool → State → Port → Packet → Parts → Outcome
-if_matching false s p k a = accepted s
-if_matching true s p k a = answered a.high a.low (judged s p (command_in k a.body))
+if_matching false s p k a = without_reply s
+if_matching true s p k a = judged_outcome a.high a.low (judged s p (command_in k a.body))
 
 abbrev pub if_addressed : State → Port → Packet → Option Parts → Outcome
-if_addressed s p k None = accepted s
+if_addressed s p k None = without_reply s
 if_addressed s p k (Some a) = if_matching (matches s.address a.high a.low) s p k a
 
 abbrev pub packet_step : State → Port → Option Packet → Outcome
-packet_step s p None = accepted s
+packet_step s p None = without_reply s
 packet_step s p (Some k) = if_addressed s p k (parts k.listed.items)
 
 abbrev pub heard_step : State → Port → Heard → Outcome
@@ -103,17 +98,17 @@ byte_step s b (Some p) = heard_step s p (hear (port_at s p).receiver b)
 
 abbrev pub gap_step : State → Option Port → Outcome
 gap_step s None = refused s NoSuchPort
-gap_step s (Some p) = accepted (with_port p (with_receiver idle (port_at s p)) s)
+gap_step s (Some p) = without_reply (with_port p (with_receiver idle (port_at s p)) s)
 
 -- the queue and the flags are kept
 abbrev pub hang_up_step : State → Option Port → Outcome
 hang_up_step s None = refused s NoSuchPort
-hang_up_step s (Some p) = accepted (with_port p (with_receiver idle (with_login None (port_at s p))) s)
+hang_up_step s (Some p) = without_reply (with_port p (with_receiver idle (with_login None (port_at s p))) s)
 
 -- ---- all calls
 
 abbrev pub unless_refused : State → Option Refusal → State → Outcome
-unless_refused s None t = accepted t
+unless_refused s None t = without_reply t
 unless_refused s (Some r) t = refused s r
 
 abbrev pub shortest_buffer : ℕ
@@ -170,18 +165,5 @@ pub record Lent : Type 0 where
   pub call : Call
   pub buffer : List ℕ
 
-pub record Served : Type 0 where
-  pub event : Event
-  pub buffer : List ℕ
-
-abbrev pub served_at : State → Lent → Served
-served_at s l = record { event = event_at s l.call; buffer = written (step s l.call).answer.reply l.buffer }
-
 abbrev pub next_lent : State → Lent → State
 next_lent s l = next s l.call
-
-abbrev pub served : State → List Lent → List Served
-served = along served_at next_lent
-
-abbrev pub final_lent : State → List Lent → State
-final_lent = ending next_lent

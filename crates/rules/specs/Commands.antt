@@ -22,11 +22,11 @@
 --   judged s p r         the packet in which r was read
 use Rattle.std.specs.Prelude.{ℕ, Bool, true, false, cond, not, ◌&&◌, ◌||◌, List, [], ◌∷◌, length, Some, None, Ok, Err, Option, Result, ◌==◌, nat_le}
 use Rattle.wire.specs.Kept.{empty}
+use Rattle.wire.specs.Fields.{same_bytes}
 use Rattle.fabric.specs.Meaning.{within}
-use Rattle.protocol.specs.Address.{same_bytes}
-use Rattle.protocol.specs.Commands.{Command, ask_flags, ask_version, lock_keypad, show_keypad, unlock_keypad, read_queue, lock_ethernet, ask_login, lock_output, set_output, unlock_output, ask_input, ask_status, unlock_ethernet, set_password, set_mask, log_in, fault_letter}
-use Rattle.protocol.specs.Replies.{Contents, keypad_locked, keypad_unlocked, output_locked, output_set, output_unlocked, ethernet_changed, mask_set, flags, version, keypad_state, feeding_input, status, changes, login, logged_in, Reply, ack, nak}
-use Rattle.protocol.specs.declared.packet.PacketFault.{PacketFault}
+use Rattle.packets.specs.Commands.{Command, ask_flags, ask_version, lock_keypad, show_keypad, unlock_keypad, read_queue, lock_ethernet, ask_login, lock_output, set_output, unlock_output, ask_input, ask_status, unlock_ethernet, set_password, set_mask, log_in, fault_letter}
+use Rattle.replies.specs.Replies.{Contents, keypad_locked, keypad_unlocked, output_locked, output_set, output_unlocked, ethernet_changed, mask_set, flags, version, keypad_state, feeding_input, status, changes, login, logged_in, Reply, ack, nak}
+use Rattle.packets.specs.declared.packet.PacketFault.{PacketFault}
 use Rattle.rules.specs.declared.fault.CommandFault.{CommandFault}
 use Rattle.rules.specs.declared.fault.CommandFault.TheVariants.{Packet, OutOfRange, WrongPassword, EthernetLocked, NoRight, OutputLocked, CannotBeMade}
 use Rattle.rules.specs.declared.port.Port.{Port}

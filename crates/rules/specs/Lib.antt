@@ -2,10 +2,13 @@ pub mod PerPort
 pub mod State
 pub mod Switching
 pub mod Commands
+pub mod Causes
 pub mod Panel
 pub mod Calls
 pub mod Table
 pub mod History
+pub mod Standing
+pub mod Rights
 pub mod Laws
 pub mod Cases
 pub mod Examples

@@ -7,18 +7,19 @@
 --   is_locked s o      output o is locked
 --   feeding s o        the input that feeds output o
 --   group_of u         the group of user u: u is in group u
---   mask_byte s o      the group mask of output o, group 8 the highest bit
+--   byte_of f          the byte of a mask: the bit of each group g is f g, group 8 the highest
+--   mask_byte s o      the group mask of output o as a byte
 --   new_port           a port as service starts: idle, nothing queued, no flag, nobody logged in
 --   service a on m     a unit at address a, with access control on or off, over a fabric that means m
---   with_fabric, with_lock, with_mask, with_keypad, with_ethernet, with_password, with_user, with_ports, with_port
+--   with-fabric, with-lock, with-mask, with-keypad, with-ethernet, with-password, with-user, with-ports, with-port
 --                      the state with that part in place of its own
---   with_receiver, with_queue, with_mask_flag, with_login
+--   with-receiver, with-queue, with-mask-flag, with-login
 --                      the same for a port
 use Rattle.std.specs.Prelude.{ℕ, ◌+◌, Bool, true, false, cond, List, [], None, codes, Option, ◌==◌}
 use Rattle.wire.specs.Kept.{Kept, empty}
 use Rattle.fabric.specs.Meaning.{Meaning}
-use Rattle.protocol.specs.Receiver.{Receiver, idle}
-use Rattle.protocol.specs.declared.change.Change.{Change}
+use Rattle.packets.specs.Receiver.{Receiver, idle}
+use Rattle.replies.specs.declared.change.Change.{Change}
 use Rattle.rules.specs.declared.port.PerPort.{PerPort}
 use Rattle.rules.specs.declared.port.Port.{Port}
 use Rattle.rules.specs.PerPort.{at, set_at, three}
@@ -64,10 +65,11 @@ feeding s o = s.fabric.feeding o
 abbrev pub group_of : ℕ → ℕ
 group_of u = u
 
+abbrev pub byte_of : (ℕ → Bool) → ℕ
+byte_of f = cond (f 1) 1 0 + cond (f 2) 2 0 + cond (f 3) 4 0 + cond (f 4) 8 0 + cond (f 5) 16 0 + cond (f 6) 32 0 + cond (f 7) 64 0 + cond (f 8) 128 0
+
 abbrev pub mask_byte : State → ℕ → ℕ
-mask_byte s o =
-    cond (s.masks o 1) 1 0 + cond (s.masks o 2) 2 0 + cond (s.masks o 3) 4 0 + cond (s.masks o 4) 8 0
-    + cond (s.masks o 5) 16 0 + cond (s.masks o 6) 32 0 + cond (s.masks o 7) 64 0 + cond (s.masks o 8) 128 0
+mask_byte s o = byte_of (s.masks o)
 
 abbrev pub new_port : PortState
 new_port = record { receiver = idle; queue = empty; mask_flag = false; login = None }

@@ -16,8 +16,8 @@
 use Rattle.std.specs.Prelude.{ℕ, Bool, true, false, cond, not, ◌&&◌, ◌||◌, List, [], ◌∷◌, Some, None, Option, ◌==◌}
 use Rattle.wire.specs.Kept.{put}
 use Rattle.fabric.specs.Meaning.{within, routed}
-use Rattle.protocol.specs.Queues.{most_queued}
-use Rattle.protocol.specs.declared.change.Change.{Change}
+use Rattle.replies.specs.Queues.{most_queued}
+use Rattle.replies.specs.declared.change.Change.{Change}
 use Rattle.rules.specs.PerPort.{each}
 use Rattle.rules.specs.State.{PortState, State, is_locked, feeding, with_fabric, with_lock, with_ports, with_queue}
 

@@ -7,7 +7,9 @@
 --   receiver_after p h    the receiver of the port p after the history h
 --   packet_at p h e       the packet of the port p that the event e ended, after the history h
 --   Asked, asked          what a command asks for: an input, the queue, a setting, a lock, an unlock, or none of these
---   asked_by, asked_in_parts, asked_in   what a packet asks for
+--   command_if, command_of_parts, command_of   the command of a packet, if it is one
+--   accepted_command p h e   the command of the port p's packet that e ended, if it was accepted
+--   asked_by              what a command asks for, if there is one
 --   accepted_at p h e     what the packet of the port p that e ended asked for, if it was accepted
 --   Told, told            what an answer tells: an input, changes, or neither
 --   told_by_reply, told_by, told_in   what a reply, bytes, an event tells
@@ -17,13 +19,13 @@
 --   with_input_told, with_queue_told, updated   a table after an answer to O or OS; to Q; to whatever was asked
 --   table p h             the table of the port p after the history h
 use Rattle.std.specs.Prelude.{ℕ, cond, List, [], ◌∷◌, length, Some, None, Ok, Err, Option, Result, ◌==◌, nat_le}
-use Rattle.protocol.specs.Address.{Parts, parts}
-use Rattle.protocol.specs.Commands.{Command, ask_flags, ask_version, lock_keypad, show_keypad, unlock_keypad, read_queue, lock_ethernet, ask_login, lock_output, set_output, unlock_output, ask_input, ask_status, unlock_ethernet, set_password, set_mask, log_in, command_in}
-use Rattle.protocol.specs.Receiver.{Receiver, idle, Packet, Heard, quiet, hear}
-use Rattle.protocol.specs.Replies.{Contents, keypad_locked, keypad_unlocked, output_locked, output_set, output_unlocked, ethernet_changed, mask_set, flags, version, keypad_state, feeding_input, status, changes, login, logged_in, Reply, ack, nak, Received, read_reply, begins_with_ack}
-use Rattle.protocol.specs.declared.change.Change.{Change}
-use Rattle.protocol.specs.declared.packet.PacketFault.{PacketFault}
-use Rattle.protocol.specs.declared.reply.ReadFault.{ReadFault}
+use Rattle.packets.specs.Address.{Parts, parts}
+use Rattle.packets.specs.Commands.{Command, ask_flags, ask_version, lock_keypad, show_keypad, unlock_keypad, read_queue, lock_ethernet, ask_login, lock_output, set_output, unlock_output, ask_input, ask_status, unlock_ethernet, set_password, set_mask, log_in, command_in}
+use Rattle.packets.specs.Receiver.{Receiver, idle, Packet, Heard, quiet, hear}
+use Rattle.replies.specs.Replies.{Contents, keypad_locked, keypad_unlocked, output_locked, output_set, output_unlocked, ethernet_changed, mask_set, flags, version, keypad_state, feeding_input, status, changes, login, logged_in, Reply, ack, nak, Received, read_reply, begins_with_ack}
+use Rattle.replies.specs.declared.change.Change.{Change}
+use Rattle.packets.specs.declared.packet.PacketFault.{PacketFault}
+use Rattle.replies.specs.declared.reply.ReadFault.{ReadFault}
 use Rattle.rules.specs.declared.port.Port.{Port}
 use Rattle.rules.specs.declared.refusal.Refusal.{Refusal}
 use Rattle.rules.specs.PerPort.{number_of}
@@ -84,21 +86,28 @@ asked (set_password w) = nothing
 asked (set_mask g v o) = nothing
 asked (log_in n w) = nothing
 
-abbrev pub asked_by : Result Command PacketFault → Asked
-asked_by (Ok c) = asked c
-asked_by (Err f) = nothing
+abbrev pub command_if : Result Command PacketFault → Option Command
+command_if (Ok c) = Some c
+command_if (Err f) = None
 
-abbrev pub asked_in_parts : Packet → Option Parts → Asked
-asked_in_parts k None = nothing
-asked_in_parts k (Some a) = asked_by (command_in k a.body)
+abbrev pub command_of_parts : Packet → Option Parts → Option Command
+command_of_parts k None = None
+command_of_parts k (Some a) = command_if (command_in k a.body)
 
-abbrev pub asked_in : Option Packet → Asked
-asked_in None = nothing
-asked_in (Some k) = asked_in_parts k (parts k.listed.items)
+abbrev pub command_of : Option Packet → Option Command
+command_of None = None
+command_of (Some k) = command_of_parts k (parts k.listed.items)
 
 -- a packet is accepted if its reply begins with ACK
+abbrev pub accepted_command : Port → List Event → Event → Option Command
+accepted_command p h e = cond (begins_with_ack e.answer.reply) (command_of (packet_at p h e)) None
+
+abbrev pub asked_by : Option Command → Asked
+asked_by None = nothing
+asked_by (Some c) = asked c
+
 abbrev pub accepted_at : Port → List Event → Event → Asked
-accepted_at p h e = cond (begins_with_ack e.answer.reply) (asked_in (packet_at p h e)) nothing
+accepted_at p h e = asked_by (accepted_command p h e)
 
 -- ---- what was told
 

@@ -3,7 +3,7 @@ ghost use Rattle.rules.specs.Commands.{letter};
 ghost use Rattle.rules.specs.declared.fault.CommandFault.TheVariants.{Packet};
 ghost use Rattle.std.specs.Prelude.{◌≡◌};
 
-use protocol::packet::PacketFault;
+use packets::packet::PacketFault;
 
 // The causes, in the order in which they are looked for.
 #[derive(Clone, Copy)]

@@ -2,8 +2,9 @@
 #![tactic(auto)]
 
 ghost use Rattle.rules.specs.Cases.{WorkedCases};
-ghost use Rattle.rules.specs.Examples.{PacketExamples, ChangeExamples, EthernetExamples, RightExamples, CallExamples, TableExamples, LawExamples};
-ghost use Rattle.rules.specs.Laws.{QueueAnswersAlwaysMakeTablesTrue, OutputsAlwaysStayAsNamed, AskersAreAlwaysTold, LawsHoldAfterEachCall};
+ghost use Rattle.rules.specs.Causes.{CausesRunDownTheTable};
+ghost use Rattle.rules.specs.Examples.{PacketExamples, ChangeExamples, EthernetExamples, RightExamples, CallExamples, BoundExamples, TableExamples, LawExamples};
+ghost use Rattle.rules.specs.Laws.{QueueAnswersAlwaysMakeTablesTrue, OutputsAlwaysStayAsNamed, AskersAreAlwaysTold, UnitIsAlwaysWhatStands, RightsAlwaysHold, RefusedCallsChangeNothing, WithoutAckOnlyTheReceiverChanges, LawsHoldAfterEachCall};
 
 pub mod fault;
 pub mod port;
@@ -21,6 +22,7 @@ pub fn examples()
     ensures ethernet { EthernetExamples }
     ensures right { RightExamples }
     ensures call { CallExamples }
+    ensures bound { BoundExamples }
     ensures table { TableExamples }
     ensures law { LawExamples }
 {}
@@ -30,5 +32,10 @@ pub fn laws_hold()
     ensures tables { QueueAnswersAlwaysMakeTablesTrue }
     ensures outputs { OutputsAlwaysStayAsNamed }
     ensures askers { AskersAreAlwaysTold }
+    ensures standing { UnitIsAlwaysWhatStands }
+    ensures rights { RightsAlwaysHold }
+    ensures refused { RefusedCallsChangeNothing }
+    ensures unacknowledged { WithoutAckOnlyTheReceiverChanges }
+    ensures causes { CausesRunDownTheTable }
     ensures calls { LawsHoldAfterEachCall }
 {}

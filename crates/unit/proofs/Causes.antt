@@ -2,10 +2,10 @@
 use Rattle.std.proofs.Common.{◌≡◌, ℕ, Bool, true, false, List, [], ◌∷◌, IfOk, Some, None, Ok, Err, Option, Result, sym, refl, ap, ◌∙◌, arith}
 use Rattle.std.specs.Option.{option_map}
 use Rattle.fabric.specs.declared.fault.RouteFault.TheVariants.{CannotBeMade}
-use Rattle.protocol.specs.Commands.{Command, set_output, lock_output}
-use Rattle.protocol.specs.Replies.{ack, Fits}
-use Rattle.protocol.specs.Replying.{reply_of}
-use Rattle.protocol.specs.declared.reply.Reply.{Reply as ReplyOfCode}
+use Rattle.packets.specs.Commands.{Command, set_output, lock_output}
+use Rattle.replies.specs.Replies.{ack, Fits}
+use Rattle.replies.specs.Replying.{reply_of}
+use Rattle.replies.specs.declared.reply.Reply.{Reply as ReplyOfCode}
 use Rattle.rules.specs.declared.fault.CommandFault.{CommandFault}
 use Rattle.rules.specs.declared.fault.CommandFault.TheVariants.{OutputLocked as CommandLocked, CannotBeMade as CommandCannotBeMade}
 use Rattle.rules.specs.declared.refusal.Refusal.{Refusal}
@@ -17,7 +17,7 @@ use Rattle.rules.specs.Commands.{range_fault, ethernet_fault, right_fault, lock_
 use Rattle.rules.specs.Calls.{unless_refused}
 use Rattle.unit.specs.declared.fault.SwitchFault.{SwitchFault}
 use Rattle.unit.specs.declared.fault.SwitchFault.TheVariants.{OutputLocked, Route}
-use Rattle.unit.specs.Switches.{checked, command_fault, panel_fault, switch_fault, set_fault, lock_fault as lock_fault_of, unless_found}
+use Rattle.unit.specs.Switches.{checked, command_fault, panel_fault, switch_fault, setting_fault, locking_fault as lock_fault_of, unless_found}
 use Rattle.unit.specs.Answering.{Carried}
 
 module _ {G : Type 0} where
@@ -43,8 +43,8 @@ module _ {G : Type 0} where
   stopped (Some g) b c rest f e = e
 
 -- the causes of a switching are those of the command
-pub as_command : (may made : Bool) → first_of (unless may CommandLocked ∷ unless made CommandCannotBeMade ∷ []) ≡ option_map command_fault (first_of (unless may OutputLocked ∷ unless made (Route CannotBeMade) ∷ []))
-as_command false made = refl
+pub as_command : (may IfOk : Bool) → first_of (unless may CommandLocked ∷ unless IfOk CommandCannotBeMade ∷ []) ≡ option_map command_fault (first_of (unless may OutputLocked ∷ unless IfOk (Route CannotBeMade) ∷ []))
+as_command false IfOk = refl
 as_command true false = refl
 as_command true true = refl
 
@@ -84,7 +84,7 @@ module _ (s : State) (p : Port) (o i : ℕ) where
   pub set_stopped : (f : CommandFault) → switch_fault s p 0x53 o i ≡ Some f → fault_of s p (set_output o i) ≡ Some f
   set_stopped f = stopped (range_fault (in_range s o i)) (ethernet_fault s p (set_output o i)) (right_fault (may_switch s p o)) (lock_fault (may_set s o) ∷ pair_fault s o i ∷ []) f
 
-  pub set_passed : switch_fault s p 0x53 o i ≡ None → fault_of s p (set_output o i) ≡ option_map command_fault (set_fault s o i)
+  pub set_passed : switch_fault s p 0x53 o i ≡ None → fault_of s p (set_output o i) ≡ option_map command_fault (setting_fault s o i)
   set_passed e = passed (range_fault (in_range s o i)) (ethernet_fault s p (set_output o i)) (right_fault (may_switch s p o)) (lock_fault (may_set s o) ∷ pair_fault s o i ∷ []) e ∙ as_command (may_set s o) (can_be_made s o i)
 
   pub lock_stopped : (f : CommandFault) → switch_fault s p 0x4C o i ≡ Some f → fault_of s p (lock_output o i) ≡ Some f
@@ -120,8 +120,8 @@ pub record PanelSo (s u : State) (x : Option Refusal) (r : Result ℕ Refusal) (
   pub after : t ≡ (unless_refused s x u).next
 
 -- the causes of a switching are those of the panel call
-pub as_panel : (may made : Bool) → first_of (unless may PanelLocked ∷ unless made PanelCannotBeMade ∷ []) ≡ option_map panel_fault (first_of (unless may OutputLocked ∷ unless made (Route CannotBeMade) ∷ []))
-as_panel false made = refl
+pub as_panel : (may IfOk : Bool) → first_of (unless may PanelLocked ∷ unless IfOk PanelCannotBeMade ∷ []) ≡ option_map panel_fault (first_of (unless may OutputLocked ∷ unless IfOk (Route CannotBeMade) ∷ []))
+as_panel false IfOk = refl
 as_panel true false = refl
 as_panel true true = refl
 

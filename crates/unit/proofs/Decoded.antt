@@ -1,16 +1,18 @@
 -- The password of an ELP that was read has at most ten bytes; and a packet for the unit is answered as the rules say.
 use Rattle.std.proofs.Common.{◌≡◌, ℕ, Bool, true, false, cond, eqb, leb, List, [], ◌∷◌, length, drop, Some, None, Ok, Err, Option, Result, sym, refl, ap, ◌∙◌}
 use Rattle.std.specs.List.{AllByRecursion}
-use Rattle.protocol.specs.declared.packet.PacketFault.{PacketFault}
-use Rattle.protocol.specs.declared.packet.PacketFault.TheVariants.{Unlisted, WrongCheckByte, ListOverrun}
-use Rattle.protocol.specs.Address.{Parts, parts, matches}
-use Rattle.protocol.specs.Receiver.{Packet}
-use Rattle.protocol.specs.Data.{one_number, two_numbers, short_text, mask_data, login_data}
-use Rattle.protocol.specs.Commands.{Command, ask_flags, ask_version, lock_keypad, show_keypad, unlock_keypad, read_queue, lock_ethernet, ask_login, lock_output, set_output, unlock_output, ask_input, ask_status, unlock_ethernet, set_password, set_mask, log_in, begins, Row, with_data, bare, rows, looked_up, decode, command_in}
+use Rattle.wire.specs.Fields.{short_text}
+use Rattle.wire.specs.Letters.{begins, Row, looked_up}
+use Rattle.packets.specs.declared.packet.PacketFault.{PacketFault}
+use Rattle.packets.specs.declared.packet.PacketFault.TheVariants.{Unlisted, WrongCheckByte, ListOverrun}
+use Rattle.packets.specs.Address.{Parts, parts, matches}
+use Rattle.packets.specs.Receiver.{Packet}
+use Rattle.packets.specs.Data.{one_number, two_numbers, mask_data, login_data}
+use Rattle.packets.specs.Commands.{Command, ask_flags, ask_version, lock_keypad, show_keypad, unlock_keypad, read_queue, lock_ethernet, ask_login, lock_output, set_output, unlock_output, ask_input, ask_status, unlock_ethernet, set_password, set_mask, log_in, with_data, bare, rows, decode, command_in}
 use Rattle.rules.specs.declared.port.Port.{Port}
 use Rattle.rules.specs.State.{State}
 use Rattle.rules.specs.Commands.{judged}
-use Rattle.rules.specs.Calls.{answered, if_matching, if_addressed, packet_step}
+use Rattle.rules.specs.Calls.{judged_outcome, if_matching, if_addressed, packet_step}
 use Rattle.unit.specs.Answering.{fits_outcome}
 
 -- a command that was made of any data
@@ -104,5 +106,5 @@ command_fits k body = by_tests k.right k.listed.overrun
     by_tests true false = decoded_fits body
 
 -- a packet with the address bytes h and l, which are the unit's
-pub packet_answered : (s : State) (p : Port) (k : Packet) (a : Parts) → Some a ≡ parts k.listed.items → true ≡ matches s.address a.high a.low → packet_step s p (Some k) ≡ answered a.high a.low (judged s p (command_in k a.body))
+pub packet_answered : (s : State) (p : Port) (k : Packet) (a : Parts) → Some a ≡ parts k.listed.items → true ≡ matches s.address a.high a.low → packet_step s p (Some k) ≡ judged_outcome a.high a.low (judged s p (command_in k a.body))
 packet_answered s p k a e t = ap (if_addressed s p k) (sym e) ∙ ap (λ (m : Bool). if_matching m s p k a) (sym t)

@@ -1,10 +1,4 @@
-pub mod Cells
-pub mod Below
-pub mod Bits
-pub mod UserNumbers
-pub mod Small
 pub mod Switches
 pub mod Causes
 pub mod Decoded
 pub mod Histories
-pub mod Every

@@ -1,35 +1,35 @@
 -- What the unit's commands of the code answer.
 --
---   replied r        the reply that says what a command returned
+--   reply_of_result r        the reply that says what a command returned
 --   Carried s p c x t     what a method did that carries out the command c at the port p: answer, state afterwards, and that the reply can be written
 --   JudgedSo s p r x t    the same of a packet in which r was read
 --   fits_command c        the password of ELP has at most ten bytes
 --   fits_outcome r        so has that of a command that was read
 use Rattle.std.specs.Prelude.{◌≡◌, Bool, true, length, Ok, Err, Result, nat_le}
-use Rattle.protocol.specs.declared.packet.PacketFault.{PacketFault}
-use Rattle.protocol.specs.Commands.{Command, ask_flags, ask_version, lock_keypad, show_keypad, unlock_keypad, read_queue, lock_ethernet, ask_login, lock_output, set_output, unlock_output, ask_input, ask_status, unlock_ethernet, set_password, set_mask, log_in}
-use Rattle.protocol.specs.Replies.{Reply, nak, Fits}
-use Rattle.protocol.specs.Replying.{reply_of}
-use Rattle.protocol.specs.declared.reply.Reply.{Reply as ReplyOfCode}
+use Rattle.packets.specs.declared.packet.PacketFault.{PacketFault}
+use Rattle.packets.specs.Commands.{Command, ask_flags, ask_version, lock_keypad, show_keypad, unlock_keypad, read_queue, lock_ethernet, ask_login, lock_output, set_output, unlock_output, ask_input, ask_status, unlock_ethernet, set_password, set_mask, log_in}
+use Rattle.replies.specs.Replies.{Reply, nak, Fits}
+use Rattle.replies.specs.Replying.{reply_of}
+use Rattle.replies.specs.declared.reply.Reply.{Reply as ReplyOfCode}
 use Rattle.rules.specs.declared.fault.CommandFault.{CommandFault}
 use Rattle.rules.specs.declared.port.Port.{Port}
 use Rattle.rules.specs.State.{State}
 use Rattle.rules.specs.Commands.{letter, reply_to, carried_out, judged}
 
-abbrev pub replied : Result ReplyOfCode CommandFault → Reply
-replied (Ok r) = reply_of r
-replied (Err f) = nak (letter f)
+abbrev pub reply_of_result : Result ReplyOfCode CommandFault → Reply
+reply_of_result (Ok r) = reply_of r
+reply_of_result (Err f) = nak (letter f)
 
 -- s and t are the states before and after, x is what was returned
 pub record Carried (s : State) (p : Port) (c : Command) (x : Result ReplyOfCode CommandFault) (t : State) : Type 0 where
-  pub answer : replied x ≡ reply_to (carried_out s p c).answer
+  pub answer : reply_of_result x ≡ reply_to (carried_out s p c).answer
   pub after : t ≡ (carried_out s p c).next
-  pub fits : Fits (replied x)
+  pub fits : Fits (reply_of_result x)
 
 pub record JudgedSo (s : State) (p : Port) (r : Result Command PacketFault) (x : Result ReplyOfCode CommandFault) (t : State) : Type 0 where
-  pub answer : replied x ≡ reply_to (judged s p r).answer
+  pub answer : reply_of_result x ≡ reply_to (judged s p r).answer
   pub after : t ≡ (judged s p r).next
-  pub fits : Fits (replied x)
+  pub fits : Fits (reply_of_result x)
 
 abbrev pub fits_command : Command → Bool
 fits_command ask_flags = true

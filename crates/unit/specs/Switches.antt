@@ -3,7 +3,7 @@
 --   command_fault     a switching's cause as that of a command
 --   panel_fault       the same as that of a panel call; one outside the counts was asked for before
 --   checked f         the answer of a test that found the cause f, or none
---   set_fault, lock_fault   why an output in range is not set, not locked on an input
+--   setting_fault, locking_fault   why an output in range is not set, not locked on an input
 --   switch_fault      why S, L and U are refused before the output is looked at; x is the first letter of the command
 --   unless_found      the state t, unless a cause was found: then s
 use Rattle.rules.specs.State.{State}
@@ -34,11 +34,11 @@ abbrev pub checked : {G : Type 0} → Option G → Result (Unit {0}) G
 checked None = Ok tt
 checked (Some f) = Err f
 
-abbrev pub set_fault : State → ℕ → ℕ → Option SwitchFault
-set_fault s o i = first_of (unless (may_set s o) SwitchLocked ∷ unless (can_be_made s o i) (Route RouteCannotBeMade) ∷ [])
+abbrev pub setting_fault : State → ℕ → ℕ → Option SwitchFault
+setting_fault s o i = first_of (unless (may_set s o) SwitchLocked ∷ unless (can_be_made s o i) (Route RouteCannotBeMade) ∷ [])
 
-abbrev pub lock_fault : State → ℕ → ℕ → Option SwitchFault
-lock_fault s o i = first_of (unless (may_lock s o i) SwitchLocked ∷ unless (can_be_made s o i) (Route RouteCannotBeMade) ∷ [])
+abbrev pub locking_fault : State → ℕ → ℕ → Option SwitchFault
+locking_fault s o i = first_of (unless (may_lock s o i) SwitchLocked ∷ unless (can_be_made s o i) (Route RouteCannotBeMade) ∷ [])
 
 abbrev pub switch_fault : State → Port → ℕ → ℕ → ℕ → Option CommandFault
 switch_fault s p x o i = first_of (range_fault (in_range s o i) ∷ unless (not (s.ethernet && is_ethernet p)) (EthernetLocked x) ∷ right_fault (may_switch s p o) ∷ [])

@@ -5,14 +5,14 @@
 --   settled t o i l     t, in which output o was on input i with the lock l before, with the change of o in every port's queue, if there is one
 use Rattle.std.specs.Prelude.{ℕ, Bool, not, ◌&&◌, ◌==◌}
 use Rattle.fabric.specs.Meaning.{Meaning}
-use Rattle.protocol.specs.Queues.{text}
+use Rattle.replies.specs.Queues.{text}
 use Rattle.rules.specs.declared.port.Port.{Port}
 use Rattle.rules.specs.PerPort.{set_at, each}
 use Rattle.rules.specs.State.{State, is_locked, feeding, with_ports}
 use Rattle.rules.specs.Switching.{same, note_if}
-use Rattle.unit.specs.declared.record.PortRecord.{PortRecord}
+use Rattle.records.specs.declared.record.PortRecord.{PortRecord}
+use Rattle.records.specs.Records.{locks_of, masks_of, users_of, port_state}
 use Rattle.unit.specs.declared.state.Unit.{Unit}
-use Rattle.unit.specs.Records.{locks_of, masks_of, users_of, port_state}
 
 module _ {F : Type 0} where
   abbrev pub state_of : (F → Meaning) → Unit F → State

@@ -5,7 +5,7 @@ ghost use Rattle.rules.specs.PerPort.{is_ethernet};
 ghost use Rattle.rules.specs.Switching.{in_range, unless};
 ghost use Rattle.rules.specs.State.{port_at};
 ghost use Rattle.rules.specs.Commands.{range_fault, right_fault, may_switch, mask_in_range, is_logged_in_as, fault_of};
-ghost use Rattle.protocol.specs.Commands.{set_mask};
+ghost use Rattle.packets.specs.Commands.{set_mask};
 ghost use Rattle.rules.specs.declared.fault.CommandFault.TheVariants.{EthernetLocked};
 ghost use Rattle.unit.specs.Switches.{checked, switch_fault};
 ghost use Rattle.unit.specs.Units.{state_of};

@@ -1,21 +1,21 @@
 // The commands, one method each. A method answers, or tells the cause for which the command is refused; then nothing is changed.
 ghost use Rattle.std.specs.Prelude.{◌≡◌, ◌≤◌, length, ◌==◌};
-ghost use Rattle.protocol.specs.Commands.{ask_flags, ask_version, lock_keypad, show_keypad, unlock_keypad, read_queue, lock_ethernet, ask_login, lock_output, set_output, unlock_output, ask_input, ask_status, unlock_ethernet, set_password, set_mask, log_in};
+ghost use Rattle.wire.specs.Fields.{most_text};
+ghost use Rattle.packets.specs.Commands.{ask_flags, ask_version, lock_keypad, show_keypad, unlock_keypad, read_queue, lock_ethernet, ask_login, lock_output, set_output, unlock_output, ask_input, ask_status, unlock_ethernet, set_password, set_mask, log_in};
 ghost use Rattle.rules.specs.Switching.{do_set, do_lock};
-ghost use Rattle.protocol.specs.Queues.{most_text};
-ghost use Rattle.protocol.specs.Replies.{ack, Fits};
-ghost use Rattle.protocol.specs.Replying.{reply_of};
+ghost use Rattle.replies.specs.Replies.{ack, Fits};
+ghost use Rattle.replies.specs.Replying.{reply_of};
 ghost use Rattle.rules.specs.State.{port_at};
 ghost use Rattle.rules.specs.Commands.{fault_of, login_shown, do_mask};
 ghost use Rattle.unit.specs.Answering.{Carried};
 ghost use Rattle.unit.specs.Switches.{checked, unless_found};
 ghost use Rattle.unit.specs.Units.{state_of};
 
-use crate::bytes::same_bytes;
 use crate::state::Unit;
 use fabric::Fabric;
-use protocol::reply::Reply;
-use protocol::text::ShortText;
+use records::bytes::same_bytes;
+use replies::reply::Reply;
+use replies::text::ShortText;
 use rules::fault::CommandFault;
 use rules::port::Port;
 

@@ -1,9 +1,8 @@
 // The calls of the lines: a byte, a gap, a hang-up.
-ghost use Rattle.std.specs.Prelude.{◌≡◌, ℕ, Bool, List, length};
+ghost use Rattle.std.specs.Prelude.{◌≡◌, length};
 ghost use Rattle.wire.specs.Frames.{written};
-ghost use Rattle.fabric.specs.Meaning.{Meaning};
-ghost use Rattle.rules.specs.Calls.{byte, gap, hang_up, step, next, Event, byte_event};
-ghost use Rattle.rules.specs.Laws.{Reached, LawsHold};
+ghost use Rattle.rules.specs.Calls.{byte, gap, hang_up, step, next, byte_event};
+ghost use Rattle.rules.specs.Laws.{KeepsTheLaws};
 ghost use Rattle.unit.specs.Units.{state_of};
 ghost use Rattle.unit.specs.Calling.{plain_event};
 
@@ -18,7 +17,7 @@ impl<F: Fabric> Unit<F> {
         ensures answer { result ≡ (step (state_of F.meaning self.old) (byte port b (length reply.old))).answer.result }
         ensures buffer { reply.new ≡ written (step (state_of F.meaning self.old) (byte port b (length reply.old))).answer.reply reply.old }
         ensures after { state_of F.meaning self.new ≡ next (state_of F.meaning self.old) (byte port b (length reply.old)) }
-        ensures law { (a : ℕ) (on : Bool) (m : Meaning) (h : List Event) → Reached a on m h (state_of F.meaning self.old) → LawsHold a on m h (byte_event port b result reply.new) (state_of F.meaning self.new) }
+        ensures law { KeepsTheLaws (state_of F.meaning self.old) (byte_event port b result reply.new) (state_of F.meaning self.new) }
     {
         self.take_byte(port, b, reply)
     }
@@ -44,7 +43,7 @@ impl<F: Fabric> Unit<F> {
     pub fn gap(&mut self, port: u8) -> Result<usize, Refusal>
         ensures answer { result ≡ (step (state_of F.meaning self.old) (gap port)).answer.result }
         ensures after { state_of F.meaning self.new ≡ next (state_of F.meaning self.old) (gap port) }
-        ensures law { (a : ℕ) (on : Bool) (m : Meaning) (h : List Event) → Reached a on m h (state_of F.meaning self.old) → LawsHold a on m h (plain_event (gap port) result) (state_of F.meaning self.new) }
+        ensures law { KeepsTheLaws (state_of F.meaning self.old) (plain_event (gap port) result) (state_of F.meaning self.new) }
     {
         self.take_gap(port)
     }
@@ -64,7 +63,7 @@ impl<F: Fabric> Unit<F> {
     pub fn hang_up(&mut self, port: u8) -> Result<usize, Refusal>
         ensures answer { result ≡ (step (state_of F.meaning self.old) (hang_up port)).answer.result }
         ensures after { state_of F.meaning self.new ≡ next (state_of F.meaning self.old) (hang_up port) }
-        ensures law { (a : ℕ) (on : Bool) (m : Meaning) (h : List Event) → Reached a on m h (state_of F.meaning self.old) → LawsHold a on m h (plain_event (hang_up port) result) (state_of F.meaning self.new) }
+        ensures law { KeepsTheLaws (state_of F.meaning self.old) (plain_event (hang_up port) result) (state_of F.meaning self.new) }
     {
         self.take_hang_up(port)
     }

@@ -1,10 +1,9 @@
 // The calls of the panel: set, lock and unlock an output.
-ghost use Rattle.std.specs.Prelude.{◌≡◌, ℕ, Bool, true, List, OnOk};
-ghost use Rattle.fabric.specs.Meaning.{Meaning};
-ghost use Rattle.rules.specs.Calls.{panel_set, panel_lock, panel_unlock, step, next, Event};
+ghost use Rattle.std.specs.Prelude.{◌≡◌, true, OnOk};
+ghost use Rattle.rules.specs.Calls.{panel_set, panel_lock, panel_unlock, step, next};
 ghost use Rattle.rules.specs.Panel.{panel_refusal};
 ghost use Rattle.rules.specs.Switching.{in_range};
-ghost use Rattle.rules.specs.Laws.{Reached, LawsHold};
+ghost use Rattle.rules.specs.Laws.{KeepsTheLaws};
 ghost use Rattle.unit.specs.Switches.{checked};
 ghost use Rattle.unit.specs.Units.{state_of};
 ghost use Rattle.unit.specs.Calling.{plain_event};
@@ -35,7 +34,7 @@ impl<F: Fabric> Unit<F> {
     pub fn panel_set(&mut self, output: u16, input: u16) -> Result<usize, Refusal>
         ensures answer { result ≡ (step (state_of F.meaning self.old) (panel_set output input)).answer.result }
         ensures after { state_of F.meaning self.new ≡ next (state_of F.meaning self.old) (panel_set output input) }
-        ensures law { (a : ℕ) (on : Bool) (m : Meaning) (h : List Event) → Reached a on m h (state_of F.meaning self.old) → LawsHold a on m h (plain_event (panel_set output input) result) (state_of F.meaning self.new) }
+        ensures law { KeepsTheLaws (state_of F.meaning self.old) (plain_event (panel_set output input) result) (state_of F.meaning self.new) }
     {
         self.try_panel_set(output, input)
     }
@@ -53,7 +52,7 @@ impl<F: Fabric> Unit<F> {
     pub fn panel_lock(&mut self, output: u16, input: u16) -> Result<usize, Refusal>
         ensures answer { result ≡ (step (state_of F.meaning self.old) (panel_lock output input)).answer.result }
         ensures after { state_of F.meaning self.new ≡ next (state_of F.meaning self.old) (panel_lock output input) }
-        ensures law { (a : ℕ) (on : Bool) (m : Meaning) (h : List Event) → Reached a on m h (state_of F.meaning self.old) → LawsHold a on m h (plain_event (panel_lock output input) result) (state_of F.meaning self.new) }
+        ensures law { KeepsTheLaws (state_of F.meaning self.old) (plain_event (panel_lock output input) result) (state_of F.meaning self.new) }
     {
         self.try_panel_lock(output, input)
     }
@@ -71,7 +70,7 @@ impl<F: Fabric> Unit<F> {
     pub fn panel_unlock(&mut self, output: u16, input: u16) -> Result<usize, Refusal>
         ensures answer { result ≡ (step (state_of F.meaning self.old) (panel_unlock output input)).answer.result }
         ensures after { state_of F.meaning self.new ≡ next (state_of F.meaning self.old) (panel_unlock output input) }
-        ensures law { (a : ℕ) (on : Bool) (m : Meaning) (h : List Event) → Reached a on m h (state_of F.meaning self.old) → LawsHold a on m h (plain_event (panel_unlock output input) result) (state_of F.meaning self.new) }
+        ensures law { KeepsTheLaws (state_of F.meaning self.old) (plain_event (panel_unlock output input) result) (state_of F.meaning self.new) }
     {
         self.try_panel_unlock(output, input)
     }

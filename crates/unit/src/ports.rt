@@ -2,23 +2,23 @@
 ghost use Rattle.std.specs.Prelude.{◌≡◌, true, Some, None};
 ghost use Rattle.std.specs.Borrow.{sem, follows};
 ghost use Rattle.wire.specs.Kept.{put};
-ghost use Rattle.protocol.specs.Queues.{queued, most_queued};
-ghost use Rattle.protocol.specs.Receiver.{idle, hear};
-ghost use Rattle.protocol.specs.Receiving.{packet_if};
-ghost use Rattle.protocol.specs.Replies.{SmallChange, changes, FitsContents};
+ghost use Rattle.replies.specs.Queues.{queued, most_queued};
+ghost use Rattle.packets.specs.Receiver.{idle, hear};
+ghost use Rattle.packets.specs.Receiving.{packet_if};
+ghost use Rattle.replies.specs.Replies.{SmallChange, changes, FitsContents};
 ghost use Rattle.rules.specs.PerPort.{at, each};
 ghost use Rattle.rules.specs.State.{port_at, with_ports, with_port, with_receiver, with_login, with_queue, with_mask_flag};
 ghost use Rattle.rules.specs.Commands.{cleared};
-ghost use Rattle.unit.specs.Small.{is_user_number};
+ghost use Rattle.records.specs.UserNumbers.{is_user_number};
 ghost use Rattle.unit.specs.Units.{state_of, with_record};
 ghost use Rattle.unit.specs.contracts.state.Unit.{the_row as unit_row};
-ghost use Rattle.unit.specs.contracts.record.PortRecord.{the_row as record_row};
+ghost use Rattle.records.specs.contracts.record.PortRecord.{the_row as record_row};
 
-use crate::record::PortRecord;
 use crate::state::Unit;
 use fabric::Fabric;
-use protocol::change::{Change, ChangeQueue};
-use protocol::packet::Packet;
+use packets::packet::Packet;
+use records::record::PortRecord;
+use replies::change::{Change, ChangeQueue};
 use rules::port::Port;
 
 impl<F: Fabric> Unit<F> {

@@ -1,17 +1,17 @@
 // The start of service.
 ghost use Rattle.std.specs.Prelude.{◌≡◌, [], codes};
-ghost use Rattle.protocol.specs.Queues.{text};
+ghost use Rattle.replies.specs.Queues.{text};
 ghost use Rattle.rules.specs.State.{service};
 ghost use Rattle.rules.specs.Laws.{Reached};
 ghost use Rattle.unit.specs.Units.{state_of};
 
-use crate::locks::Locks;
-use crate::masks::Masks;
-use crate::record::PortRecord;
 use crate::state::Unit;
-use crate::users::Users;
 use fabric::Fabric;
-use protocol::text::ShortText;
+use records::locks::Locks;
+use records::masks::Masks;
+use records::record::PortRecord;
+use records::users::Users;
+use replies::text::ShortText;
 use rules::port::PerPort;
 
 // The password of the Ethernet lock at first.

@@ -1,9 +1,9 @@
 // What a unit keeps.
-use crate::locks::Locks;
-use crate::masks::Masks;
-use crate::record::PortRecord;
-use crate::users::Users;
-use protocol::text::ShortText;
+use records::locks::Locks;
+use records::masks::Masks;
+use records::record::PortRecord;
+use records::users::Users;
+use replies::text::ShortText;
 use rules::port::PerPort;
 
 // A unit in service over a fabric. The table of its port records is a plain struct, of which one record at a time is lent.

@@ -4,13 +4,13 @@ ghost use Rattle.fabric.specs.Meaning.{within};
 ghost use Rattle.rules.specs.State.{with_lock, with_mask};
 ghost use Rattle.rules.specs.Commands.{do_mask};
 ghost use Rattle.rules.specs.Switching.{same, do_set, do_lock, do_unlock, in_range};
-ghost use Rattle.unit.specs.Switches.{checked, set_fault, lock_fault, unless_found};
+ghost use Rattle.unit.specs.Switches.{checked, setting_fault, locking_fault, unless_found};
 ghost use Rattle.unit.specs.Units.{state_of, settled};
 
 use crate::fault::SwitchFault;
 use crate::state::Unit;
 use fabric::Fabric;
-use protocol::change::Change;
+use replies::change::Change;
 
 // Whether the feeding input or the lock of an output is another than before.
 fn differs(before: u16, input: u16, was: bool, locked: bool) -> bool
@@ -48,8 +48,8 @@ impl<F: Fabric> Unit<F> {
 
     pub(crate) fn set(&mut self, output: u16, input: u16) -> Result<(), SwitchFault>
         requires { in_range (state_of F.meaning self.old) output input ≡ true }
-        ensures answer { result ≡ checked (set_fault (state_of F.meaning self.old) output input) }
-        ensures after { state_of F.meaning self.new ≡ unless_found (state_of F.meaning self.old) (set_fault (state_of F.meaning self.old) output input) (do_set (state_of F.meaning self.old) output input) }
+        ensures answer { result ≡ checked (setting_fault (state_of F.meaning self.old) output input) }
+        ensures after { state_of F.meaning self.new ≡ unless_found (state_of F.meaning self.old) (setting_fault (state_of F.meaning self.old) output input) (do_set (state_of F.meaning self.old) output input) }
     {
         let was = self.locks.is_locked(output);
         if was {
@@ -63,8 +63,8 @@ impl<F: Fabric> Unit<F> {
 
     pub(crate) fn lock(&mut self, output: u16, input: u16) -> Result<(), SwitchFault>
         requires { in_range (state_of F.meaning self.old) output input ≡ true }
-        ensures answer { result ≡ checked (lock_fault (state_of F.meaning self.old) output input) }
-        ensures after { state_of F.meaning self.new ≡ unless_found (state_of F.meaning self.old) (lock_fault (state_of F.meaning self.old) output input) (do_lock (state_of F.meaning self.old) output input) }
+        ensures answer { result ≡ checked (locking_fault (state_of F.meaning self.old) output input) }
+        ensures after { state_of F.meaning self.new ≡ unless_found (state_of F.meaning self.old) (locking_fault (state_of F.meaning self.old) output input) (do_lock (state_of F.meaning self.old) output input) }
     {
         let was = self.locks.is_locked(output);
         let before = self.fabric.feeding(output);

@@ -1,11 +1,11 @@
 -- The 64 bytes of a reply: what writing behind the body, and ending it, does to header, address and body.
 use Rattle.std.proofs.Common.{◌≡◌, ℕ, suc, ◌+◌, ◌-◌, ◌≤◌, true, List, [], ◌∷◌, ◌++◌, length, get_or, take, drop, set, Ok, sym, ap, ◌∙◌, arith, rules}
-use borrow.Rule.Slice.PartMut.{put_mid}
 use Rattle.std.proofs.lemmas.List.{length-set, length-take-le, length-drop, take_more_set, places}
 use Rattle.std.proofs.lemmas.Slice.{take-put_mid}
 use Rattle.std.proofs.lemmas.Bool.{le-leb, cond-true}
 use Rattle.wire.specs.Frames.{Frame, fits, with_body, added, up_to_etx, check_byte, on_line}
 use Rattle.wire.specs.Drafts.{add_answer}
+use borrow.Rule.Slice.PartMut.{put_mid}
 
 -- what stands in the cells, with n bytes of body
 abbrev reading : List ℕ → ℕ → Frame

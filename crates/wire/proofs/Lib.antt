@@ -1,4 +1,6 @@
 pub mod Keeping
 pub mod Fronts
 pub mod Cells
+pub mod CheckBytes
 pub mod Digits
+pub mod Letters

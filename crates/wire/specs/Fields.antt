@@ -8,6 +8,11 @@
 --   hex_pair         the number of two such values
 --   read_hex         two hexadecimal digits in capitals
 --   read_colon       a colon: the bytes behind it
+--   then, past       reads on behind a field; behind a colon
+--   ended v xs       v, where no byte is left
+--   most_text        how many bytes a name or a password has at the most
+--   short_text       all of some bytes, where they are not more
+--   same_bytes       two lists are the same bytes
 --   one_digit        a number below 10 as a decimal digit
 --   three_digits     a number below 1000 as three decimal digits
 --   hex_digit        a number below 16 as a hexadecimal digit in capitals
@@ -15,8 +20,9 @@
 --   if_below m n v   v, if n is below m
 --   field, behind    what a reader of the code returned, with what its slices hold
 --   DigitReadsBack, NumberReadsBack, HexReadsBack         what was written is read as the number that it was written for
-use Rattle.std.specs.Prelude.{◌≡◌, ℕ, ◌+◌, ◌-◌, ◌*◌, ◌/◌, ◌%◌, ◌<◌, Bool, cond, ◌&&◌, List, [], ◌∷◌, ◌++◌, Some, None, Option, ◌==◌, nat_le, nat_lt}
+use Rattle.std.specs.Prelude.{◌≡◌, ℕ, ◌+◌, ◌-◌, ◌*◌, ◌/◌, ◌%◌, ◌<◌, Bool, cond, ◌&&◌, List, [], ◌∷◌, ◌++◌, length, Some, None, Option, ◌==◌, nat_le, nat_lt}
 use Rattle.std.specs.Borrow.{Bor}
+use Rattle.std.specs.Str.{bytes_eq}
 
 abbrev pub is_digit : ℕ → Bool
 is_digit b = nat_le 48 b && nat_le b 57
@@ -53,6 +59,26 @@ abbrev pub read_colon : List ℕ → Option (List ℕ)
 read_colon [] = None
 read_colon (a ∷ rest) = cond (a == 58) (Some rest) None
 
+abbrev pub then : {V W : Type 0} → Field V → (V → List ℕ → Option W) → Option W
+then None f = None
+then (Some p) f = f p.0 p.1
+
+abbrev pub past : {W : Type 0} → Option (List ℕ) → (List ℕ → Option W) → Option W
+past None f = None
+past (Some xs) f = f xs
+
+abbrev pub ended : {V : Type 0} → V → List ℕ → Option V
+ended v xs = cond (length xs == 0) (Some v) None
+
+abbrev pub most_text : ℕ
+most_text = 10
+
+abbrev pub short_text : List ℕ → Option (List ℕ)
+short_text xs = cond (nat_le (length xs) most_text) (Some xs) None
+
+abbrev pub same_bytes : List ℕ → List ℕ → Bool
+same_bytes a b = bytes_eq a b
+
 -- ---- written
 
 abbrev pub one_digit : ℕ → List ℕ
@@ -72,7 +98,7 @@ if_below m n v = cond (nat_lt n m) (Some v) None
 
 -- ---- the code's answers
 
-abbrev pub field : Option (ℕ × Bor (List ℕ)) → Field ℕ
+abbrev pub field : {V : Type 0} → Option (V × Bor (List ℕ)) → Field V
 field None = None
 field (Some p) = Some (p.0, p.1.now)
 

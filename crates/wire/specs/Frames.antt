@@ -1,16 +1,17 @@
 -- A reply as bytes: header, two address bytes, body, ETX and check byte.
 --
---   Frame              the header, the address bytes and the body
---   most_body          the most bytes that a body has
---   fits f bs          the bytes bs fit behind the body of f
---   with_body f bs     f with bs behind its body
---   added f bs         f after bs were to be added: with them where they fit, else as it was
---   check_byte bs      the exclusive or of all of bs
---   up_to_etx f        header, address, body and ETX
---   on_line f          the whole reply: up to ETX, and the check byte of all these
---   written r xs       a buffer that held xs, with r at its front and the bytes beyond r as they were
---   copied r xs        the same where r fits, and xs where it does not
-use Rattle.std.specs.Prelude.{ℕ, ◌+◌, Bool, cond, List, [], ◌∷◌, ◌++◌, length, drop, fold, bit_xor, nat_le}
+--   Frame                      the header, the address bytes and the body
+--   most_body                  the most bytes that a body has
+--   fits f bs                  the bytes bs fit behind the body of f
+--   with_body f bs             f with bs behind its body
+--   added f bs                 f after bs were to be added: with them where they fit, else as it was
+--   check_byte bs              the exclusive or of all of bs
+--   up_to_etx f                header, address, body and ETX
+--   on_line f                  the whole reply: up to ETX, and the check byte of all these
+--   written r xs               a buffer that held xs, with r at its front and the bytes beyond r as they were
+--   copied r xs                the same where r fits, and xs where it does not
+--   WholeReplySumsToZero       the exclusive or of all bytes of a reply, its check byte among them, is 0
+use Rattle.std.specs.Prelude.{◌≡◌, ℕ, ◌+◌, Bool, cond, List, [], ◌∷◌, ◌++◌, length, drop, fold, bit_xor, nat_le}
 
 pub record Frame : Type 0 where
   pub header : ℕ
@@ -44,3 +45,6 @@ written r xs = r ++ drop (length r) xs
 
 abbrev pub copied : List ℕ → List ℕ → List ℕ
 copied r xs = cond (nat_le (length r) (length xs)) (written r xs) xs
+
+abbrev pub WholeReplySumsToZero : Type 0
+WholeReplySumsToZero = (f : Frame) → check_byte (on_line f) ≡ 0

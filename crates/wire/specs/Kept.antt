@@ -8,8 +8,10 @@
 --   front xs u v        the first u of the places xs, with the mark v
 --   placed xs u x       the places xs after x came to the first u of them: written behind these, if there is room
 --   counted xs u v      how many of the places xs are used then, and the mark, where u were used with the mark v
+--   placed_all xs ys    the places xs after all of ys came, in order, from the first place on
+--   counted_all xs ys   how many of the places xs are used then, and the mark
 --   KeepsTheFirst E     an empty list into which xs are put holds the first n of xs, marked exactly if there were more
-use Rattle.std.specs.Prelude.{◌≡◌, ℕ, ◌+◌, Bool, true, false, cond, List, [], ◌∷◌, ◌++◌, length, take, nat_lt, slice_set}
+use Rattle.std.specs.Prelude.{◌≡◌, ℕ, ◌+◌, min, Bool, true, false, cond, List, [], ◌∷◌, ◌++◌, length, take, drop, nat_lt, slice_set}
 
 pub record Kept (E : Type 0) : Type 0 where
   pub items : List E
@@ -37,6 +39,12 @@ module _ {E : Type 0} where
 
   abbrev pub counted : List E → ℕ → Bool → ℕ × Bool
   counted xs used marked = cond (nat_lt used (length xs)) (used + 1, marked) (used, true)
+
+  abbrev pub placed_all : List E → List E → List E
+  placed_all xs ys = take (length xs) ys ++ drop (length ys) xs
+
+  abbrev pub counted_all : List E → List E → ℕ × Bool
+  counted_all xs ys = (min (length xs) (length ys), nat_lt (length xs) (length ys))
 
 abbrev pub KeepsTheFirst : Type 0 → Type 0
 KeepsTheFirst E = (n : ℕ) (xs : List E) → put_all n empty xs ≡ firsts n xs

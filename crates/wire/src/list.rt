@@ -1,7 +1,7 @@
 // Lists that keep the first elements put into them, in order, and mark an overrun when one more comes.
 // The places stand in the memory of whoever holds the list, for every type of element and every number of places.
-ghost use Rattle.std.specs.Prelude.{◌≡◌, ◌≤◌, length, drop};
-ghost use Rattle.wire.specs.Kept.{put, front, firsts, placed, counted, KeepsTheFirst};
+ghost use Rattle.std.specs.Prelude.{◌≡◌, length};
+ghost use Rattle.wire.specs.Kept.{put, front, firsts, placed, counted, placed_all, counted_all, KeepsTheFirst};
 
 // Puts `x` behind the first `used` places, if there is room; else marks an overrun.
 // Returns how many places are used then, and the mark.
@@ -21,9 +21,9 @@ pub fn keep<T: Drop>(places: &mut [T], used: usize, overrun: bool, x: T) -> (usi
 // Keeps as many of `xs` as there are places, from the first place on.
 // Returns how many are kept, and whether one more came.
 pub fn keep_all<T: Copy>(places: &mut [T], xs: &[T]) -> (usize, bool)
+    ensures answer { result ≡ counted_all places.old xs.now }
+    ensures after { places.new ≡ placed_all places.old xs.now }
     ensures kept { front places.new result.0 result.1 ≡ firsts (length places.old) xs.now }
-    ensures within { result.0 ≤ length places.old }
-    ensures beyond { drop result.0 places.new ≡ drop result.0 places.old }
 {
     let mut used = 0;
     let mut overrun = false;

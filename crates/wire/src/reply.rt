@@ -3,7 +3,7 @@ ghost use Rattle.std.specs.Prelude.{◌≡◌, ◌≤◌, length};
 
 mod methods;
 
-pub use methods::check_byte;
+pub use methods::{check_byte, whole_reply_sums_to_zero};
 
 // The first byte of a reply.
 #[derive(Clone, Copy)]

@@ -1,7 +1,7 @@
 // A bank in service.
 ghost use Rattle.std.specs.Prelude.{◌≡◌, ◌-◌, true, ◌&&◌, slice_index};
 ghost use Rattle.fabric.specs.Meaning.{within, routed};
-ghost use Rattle.fabric.specs.Banks.{is_on, closed, OneClosed};
+ghost use Rattle.fabric.specs.Banks.{is_on, closed, OneClosed, relay_row};
 ghost use Rattle.fabric.specs.Kinds.{bank_meaning};
 ghost use Rattle.fabric.specs.Laws.{OnlyTheFeedingRelayIsClosed};
 ghost use Rattle.std.proofs.Common.{rules, arith};
@@ -13,7 +13,8 @@ use crate::{Fabric, RouteFault, is_within};
 impl RelayBank {
     // The row of an output, with the relay of input j at bit j - 1; no relay for an output outside the count.
     pub fn relays(&self, output: u16) -> u16
-        ensures { OnlyTheFeedingRelayIsClosed (bank_meaning self.now) output result }
+        ensures answer { result ≡ relay_row (bank_meaning self.now) output }
+        ensures law { OnlyTheFeedingRelayIsClosed (bank_meaning self.now) output result }
     {
         if !is_within(output, self.outputs) {
             return 0;

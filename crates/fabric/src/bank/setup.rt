@@ -2,7 +2,7 @@
 ghost use Rattle.std.specs.Prelude.{◌≡◌, ◌-◌, ◌^◌, true, ◌&&◌};
 ghost use Rattle.fabric.specs.Meaning.{within};
 ghost use Rattle.fabric.specs.Cards.{started};
-ghost use Rattle.fabric.specs.Banks.{BankSized, OneClosed, closed, new_bank, without, marked};
+ghost use Rattle.fabric.specs.Banks.{most_relays, BankSized, OneClosed, closed, new_bank, without, marked};
 ghost use Rattle.fabric.specs.Kinds.{setup_meaning, bank_meaning};
 
 use super::{BankSetup, RelayBank};
@@ -64,7 +64,7 @@ impl BankSetup {
 
 // The row in which only the relay of `input` is set.
 pub(super) fn relay(input: u16) -> u16
-    requires { within input 16 ≡ true }
+    requires { within input most_relays ≡ true }
     ensures answer { result ≡ 2 ^ (input - 1) }
     ensures law { (closed result ≡ input) × (OneClosed input result) }
 {

@@ -1,6 +1,6 @@
 // The calls of headers, drafts and sealed replies.
 ghost use Rattle.std.specs.Prelude.{◌≡◌, ◌≤◌, [], ◌∷◌, length};
-ghost use Rattle.wire.specs.Frames.{check_byte, added, on_line, copied};
+ghost use Rattle.wire.specs.Frames.{check_byte, added, on_line, copied, WholeReplySumsToZero};
 ghost use Rattle.wire.specs.Drafts.{header_byte, fault_number, frame, sealed, add_answer, copy_answer};
 
 use super::{CopyFault, Draft, DraftFault, Header, SealedReply};
@@ -44,6 +44,11 @@ pub fn check_byte(bytes: &[u8]) -> u8
     }
     check
 }
+
+// The law of check bytes, by which a whole reply can be tested in one go.
+pub fn whole_reply_sums_to_zero()
+    ensures { WholeReplySumsToZero }
+{}
 
 impl Draft {
     // A draft with an empty body; `high` and `low` are the address bytes.

@@ -1,13 +1,14 @@
 -- Each turn makes one call as the rules say; at the end the laws hold of the whole list.
 use Rattle.std.proofs.Common.{◌≡◌, List, map, reverse, get_or, sym, ap, ◌∙◌, subst, arith}
+use mathlib.Core.List.{map-map}
 use Rattle.rules.specs.State.{State, service}
 use Rattle.rules.specs.Calls.{Event, transcript, final, Lent, next_lent}
-use Rattle.rules.specs.Laws.{Reached, QueueAnswersMakeTablesTrue, OutputsStayAsNamed, AskersAreTold, after}
+use Rattle.rules.specs.Laws.{Reached, QueueAnswersMakeTablesTrue, OutputsStayAsNamed, AskersAreTold, RightsHoldThroughout, state_after}
 use Rattle.rules.proofs.Lists.{run_begins, run_goes_on, run_ends, final_lent_is}
-use Rattle.rules.proofs.Laws.{reached_by, outputs_named, outputs_as_named, tables_true, askers_told, after-transcript}
+use Rattle.rules.proofs.Laws.{reached_by, reached_standing, outputs_named, outputs_as_named, tables_true, askers_told, rights_throughout, after-transcript}
 use Rattle.unit.specs.Units.{state_of}
-use Rattle.calls.specs.Listed.{shown_at, shown_along, shown, lent, call_of, buffer_of, event_in, event}
-use Rattle.calls.proofs.Shows.{events_are, map-map, shows_so, last_true}
+use Rattle.calls.specs.Listed.{shown_at, shown_along, shown, lent, call_of, buffer_of, events_in, events}
+use Rattle.calls.proofs.Shows.{events_are, shows_so, last_true}
 use Rattle.calls.proofs.serving.serve.Goals as goal
 
 pub loop-c-init : goal.loop-c-init
@@ -40,16 +41,19 @@ returns g c =
     let sound = g.met.F.Fabric.sound c.args.fabric in
     let listed : map shown xs ≡ shown_along start ls = ends.0 ∙ ap (λ (s : State). shown_along s ls) c.start-unit.ensures.state in
     let goes : state_of m c.loop-c.unit ≡ final start cs = ends.1 ∙ final_lent_is (state_of m c.start-unit.result) ls ∙ ap (λ (s : State). final s cs) c.start-unit.ensures.state in
-    let seen : map event xs ≡ transcript start cs = sym (map-map shown event_in xs) ∙ ap (map event_in) listed ∙ events_are start ls in
-    let reached : Reached a on n (reverse (map event xs)) (state_of m c.loop-c.unit) =
-    subst (λ (s : State). Reached a on n (reverse (map event xs)) s) (sym goes) (subst (λ (es : List Event). Reached a on n (reverse es) (final start cs)) (sym seen) (reached_by a on n sound cs)) in
+    let seen : events xs ≡ transcript start cs = ap events_in listed ∙ events_are start ls in
+    let reached : Reached a on n (reverse (events xs)) (state_of m c.loop-c.unit) =
+    subst (λ (s : State). Reached a on n (reverse (events xs)) s) (sym goes) (subst (λ (es : List Event). Reached a on n (reverse es) (final start cs)) (sym seen) (reached_by a on n sound cs)) in
     record {
       served = listed;
-      state = goes ∙ ap (final start) (map-map lent (λ (l : Lent). l.call) xs₀);
+      state = goes ∙ ap (final start) (map-map (λ (l : Lent). l.call) lent xs₀);
+      made = seen ∙ ap (transcript start) (map-map (λ (l : Lent). l.call) lent xs₀);
       reached = reached;
       tables = subst (QueueAnswersMakeTablesTrue start) (sym seen) (tables_true a on n sound cs);
-      outputs = outputs_named a on n (reverse (map event xs)) (state_of m c.loop-c.unit) reached;
+      outputs = outputs_named a on n (reverse (events xs)) (state_of m c.loop-c.unit) reached;
       throughout = subst (OutputsStayAsNamed start) (sym seen) (outputs_as_named a on n sound cs);
       askers = subst (AskersAreTold start) (sym seen) (askers_told a on n sound cs);
-      last = last_true start (map event xs) (state_of m c.loop-c.unit) (subst (QueueAnswersMakeTablesTrue start) (sym seen) (tables_true a on n sound cs)) (goes ∙ sym (after-transcript start cs) ∙ ap (after start) (sym seen));
+      standing = reached_standing a on n (reverse (events xs)) (state_of m c.loop-c.unit) reached;
+      rights = subst (RightsHoldThroughout on) (sym seen) (rights_throughout a on n sound cs);
+      last = last_true start (events xs) (state_of m c.loop-c.unit) (subst (QueueAnswersMakeTablesTrue start) (sym seen) (tables_true a on n sound cs)) (goes ∙ sym (after-transcript start cs) ∙ ap (state_after start) (sym seen));
     }

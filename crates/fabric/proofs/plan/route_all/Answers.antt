@@ -3,9 +3,9 @@ use Rattle.std.proofs.Common.{◌≡◌, ℕ, ◌+◌, ◌≤◌, Bool, true, fa
 use Rattle.std.proofs.lemmas.List.{drop_all}
 use Rattle.fabric.specs.Meaning.{Meaning}
 use Rattle.fabric.specs.Laws.{LastAcceptedStays}
-use Rattle.fabric.proofs.PlanLaws.{one_more, last_accepted}
-use Rattle.fabric.proofs.plan.route_all.Goals as goal
+use Rattle.fabric.proofs.PlanLaws.{one_more, as_many_accepted, last_accepted}
 use Rattle.fabric.proofs.plan.route_all.Goals.{then-is_ok, else-is_ok}
+use Rattle.fabric.proofs.plan.route_all.Goals as goal
 
 counting : (t : Bool) → (d n u v w : ℕ) → d ≤ n → d + u ≡ w → u ≡ cond t 1 0 + v → (d + cond t 1 0 ≤ n + 1) × (d + cond t 1 0 + v ≡ w)
 counting true d n u v w l e f = (omega arith, omega arith)
@@ -34,5 +34,6 @@ returns g c =
     record {
       answer = omega (arith, counted);
       after = changed;
+      count = as_many_accepted (m c.args.fabric.now) c.args.plan.now;
       law = subst (λ (end : Meaning). LastAcceptedStays (m c.args.fabric.now) c.args.plan.now end) (sym changed) (last_accepted (m c.args.fabric.now) c.args.plan.now);
     }

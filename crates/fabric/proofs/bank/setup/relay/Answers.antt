@@ -2,8 +2,8 @@
 use Rattle.std.proofs.Common.{ℕ, ◌-◌, sym, ap, ◌∙◌, subst, arith}
 use Rattle.std.proofs.lemmas.Nat.{one_shl}
 use Rattle.fabric.specs.Banks.{closed, OneClosed}
-use Rattle.fabric.proofs.Means.{within_le}
 use Rattle.fabric.proofs.BankLaws.{closed_pow, only_closed}
+use Rattle.fabric.proofs.Means.{within_le}
 use Rattle.fabric.proofs.bank.setup.relay.Goals as goal
 
 pub returns : goal.returns

@@ -1,6 +1,8 @@
 -- Each input of a join behaves as in the fabric that has it.
 use Rattle.fabric.specs.Kinds.{chosen}
-use Rattle.fabric.proofs.JoinLaws.{first_inputs, other_inputs, first_alone}
+use Rattle.fabric.proofs.JoinLaws.{first_inputs}
+use Rattle.fabric.proofs.JoinLaws.{other_inputs}
+use Rattle.fabric.proofs.JoinLaws.{first_alone}
 use Rattle.fabric.proofs.join.Join.first_inputs.Goals as goal
 
 pub returns : goal.returns

@@ -1,9 +1,17 @@
--- An output of the join is one of the 256 that have a selected side.
-use Rattle.std.proofs.Common.{sym, arith}
-use Rattle.fabric.proofs.JoinLaws.{wider}
+-- What the two parts mean after the routing is, as one, what the join means.
+use Rattle.std.proofs.Common.{◌∙◌}
+use Rattle.fabric.specs.Joins.{joined}
+use Rattle.fabric.specs.Kinds.{chosen}
+use Rattle.fabric.proofs.JoinLaws.{parts_joined}
 use Rattle.fabric.proofs.join.JoinFabric.route.Goals as goal
 
-pub select-requires : goal.select-requires
-select-requires g c =
-    let few = (g.met.F.Fabric.sound c.args.self.now.first).few_outputs in
-    wider c.args.output c.outputs.result 256 (sym c.if-not-is_within.ensures) (omega (arith, few, c.outputs.ensures))
+pub returns : goal.returns
+returns g c =
+    let s = c.args.self.now in
+    let called = c.route_in_part.ensures in
+    record {
+      answer = called.answer;
+      after = (λ t. joined (called.first t) (called.second t) (called.selected t))
+          ∙ parts_joined (g.F.Fabric.meaning s.first) (g.G.Fabric.meaning s.second) (chosen s.selected) c.args.output c.args.input
+          (g.met.F.Fabric.sound s.first) (g.met.G.Fabric.sound s.second);
+    }

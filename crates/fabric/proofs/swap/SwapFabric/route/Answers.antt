@@ -8,7 +8,7 @@ pub returns-in_err-route : goal.returns-in_err-route
 returns-in_err-route g c =
     let s = c.args.self.now in
     let p = swap_routed (g.F.Fabric.meaning s.below) s.p s.q c.args.output c.args.input c.route.result (g.F.Fabric.meaning c.route.new.self)
-    c.across-input.result c.across-input.ensures c.route.ensures.answer c.route.ensures.after in
+    c.input_below-input.result c.input_below-input.ensures.answer c.route.ensures.answer c.route.ensures.after in
     let e = err_from_is_err_and c.from_residual.result c.from_residual.ensures.1 in
     record { answer = rw (e.1, e.2) (sym c.in_err-route.was ∙ p.0); after = p.1 }
 
@@ -16,5 +16,5 @@ pub returns : goal.returns
 returns g c =
     let s = c.args.self.now in
     let p = swap_routed (g.F.Fabric.meaning s.below) s.p s.q c.args.output c.args.input c.route.result (g.F.Fabric.meaning c.route.new.self)
-    c.across-input.result c.across-input.ensures c.route.ensures.answer c.route.ensures.after in
+    c.input_below-input.result c.input_below-input.ensures.answer c.route.ensures.answer c.route.ensures.after in
     record { answer = sym c.in_ok-route.was ∙ p.0; after = p.1 }

@@ -1,9 +1,9 @@
 -- The packet is for the unit, so that what the rules judge is replied.
 use Rattle.std.proofs.Common.{ℕ, length, Ok, sym, ap, ◌∙◌}
 use Rattle.wire.specs.Frames.{written}
-use Rattle.protocol.specs.Address.{Parts}
-use Rattle.protocol.specs.Receiving.{packet}
-use Rattle.protocol.specs.Replies.{Reply, reply_bytes}
+use Rattle.packets.specs.Address.{Parts}
+use Rattle.packets.specs.Receiving.{packet}
+use Rattle.replies.specs.Replies.{Reply, reply_bytes}
 use Rattle.rules.specs.Calls.{Outcome}
 use Rattle.unit.specs.Units.{state_of}
 use Rattle.unit.proofs.Decoded.{packet_answered}

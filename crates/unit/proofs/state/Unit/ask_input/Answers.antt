@@ -1,9 +1,9 @@
 -- The feeding input has at most three digits.
 use Rattle.std.proofs.Common.{◌≡◌, ℕ, [], ◌∷◌, None, refl, ap, arith}
 use Rattle.fabric.proofs.Means.{few_feeding}
-use Rattle.protocol.specs.Commands.{ask_input}
-use Rattle.protocol.specs.Replies.{ack, feeding_input}
-use Rattle.protocol.specs.declared.reply.Reply.TheVariants.{FeedingInput}
+use Rattle.packets.specs.Commands.{ask_input}
+use Rattle.replies.specs.Replies.{ack, feeding_input}
+use Rattle.replies.specs.declared.reply.Reply.TheVariants.{FeedingInput}
 use Rattle.rules.specs.Switching.{first_of}
 use Rattle.rules.specs.Commands.{fault_of}
 use Rattle.unit.specs.Units.{state_of}

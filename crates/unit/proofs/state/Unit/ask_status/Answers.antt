@@ -1,9 +1,9 @@
 -- The feeding input has at most three digits, and the mask is a byte.
 use Rattle.std.proofs.Common.{◌≡◌, [], ◌∷◌, None, refl, arith}
 use Rattle.fabric.proofs.Means.{few_feeding}
-use Rattle.protocol.specs.Commands.{ask_status}
-use Rattle.protocol.specs.Replies.{ack, status}
-use Rattle.protocol.specs.declared.reply.Reply.TheVariants.{Status}
+use Rattle.packets.specs.Commands.{ask_status}
+use Rattle.replies.specs.Replies.{ack, status}
+use Rattle.replies.specs.declared.reply.Reply.TheVariants.{Status}
 use Rattle.rules.specs.Switching.{first_of}
 use Rattle.rules.specs.Commands.{fault_of}
 use Rattle.unit.specs.Units.{state_of}

@@ -1,5 +1,5 @@
 use Rattle.std.proofs.Common.{ap, ◌∙◌}
-use Rattle.protocol.specs.Receiving.{packet}
+use Rattle.packets.specs.Receiving.{packet}
 use Rattle.unit.specs.Answering.{fits_outcome}
 use Rattle.unit.proofs.Decoded.{command_fits}
 use Rattle.unit.proofs.state.Unit.judge.Goals as goal

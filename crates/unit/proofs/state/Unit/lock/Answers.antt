@@ -5,7 +5,7 @@ use Rattle.fabric.proofs.Means.{after_made}
 use Rattle.rules.specs.State.{with_fabric, with_lock}
 use Rattle.rules.specs.Switching.{may_lock, do_lock}
 use Rattle.unit.specs.declared.fault.SwitchFault.{SwitchFault}
-use Rattle.unit.specs.Switches.{lock_fault, checked, unless_found}
+use Rattle.unit.specs.Switches.{locking_fault, checked, unless_found}
 use Rattle.unit.specs.Units.{state_of, settled}
 use Rattle.unit.proofs.Switches.{no_lock_fault}
 use Rattle.unit.proofs.state.Unit.lock.Goals as goal
@@ -19,7 +19,7 @@ returns g c =
     let sound = g.met.F.Fabric.sound c.args.self.now.fabric in
     let made : m.makeable o i ≡ true = search rules in
     let may : may_lock s o i ≡ true = sym (λ j. not (c.is_locked-was.ensures j) || eqb i (c.feeding-before.ensures j)) ∙ sym c.if-not-may_lock.ensures in
-    let none : lock_fault s o i ≡ None = no_lock_fault s o i may made in
+    let none : locking_fault s o i ≡ None = no_lock_fault s o i may made in
     let routes : g.F.Fabric.meaning c.route.new.self ≡ routed m o i = c.route.ensures.after ∙ after_made m o i made in
     record {
       answer = ap checked (sym none);

@@ -1,7 +1,7 @@
 use Rattle.std.proofs.Common.{◌≡◌, eqb, None, Option, refl, ap, ◌∙◌}
 use Rattle.std.proofs.lemmas.Result.{err_from_is_err_and}
-use Rattle.protocol.specs.Commands.{set_mask}
-use Rattle.protocol.specs.declared.reply.Reply.TheVariants.{MaskSet}
+use Rattle.packets.specs.Commands.{set_mask}
+use Rattle.replies.specs.declared.reply.Reply.TheVariants.{MaskSet}
 use Rattle.rules.specs.declared.fault.CommandFault.{CommandFault}
 use Rattle.rules.specs.Commands.{fault_of, do_mask}
 use Rattle.unit.specs.Switches.{unless_found}

@@ -1,7 +1,16 @@
-use Rattle.std.proofs.Common.{ℕ, Bool, ap}
+-- An output of the fabric is among those that have a mask.
+use Rattle.std.proofs.Common.{ℕ, Bool, ap, ◌∙◌}
+use Rattle.std.proofs.lemmas.Bool.{and_from}
+use Rattle.records.proofs.Bits.{other_inside, bit_put_inside}
 use Rattle.unit.specs.Units.{state_of}
-use Rattle.unit.proofs.Switches.{with_masks}
+use Rattle.unit.proofs.Switches.{with_masks, output_kept}
 use Rattle.unit.proofs.state.Unit.set_mask_bit.Goals as goal
 
 pub returns : goal.returns
-returns g c = record { answer = c.set.ensures.answer; after = ap (λ (f : ℕ → ℕ → Bool). with_masks f (state_of g.F.Fabric.meaning c.args.self.now)) c.set.ensures.after }
+returns g c =
+    let s = state_of g.F.Fabric.meaning c.args.self.now in
+    let inside = and_from _ _ (output_kept s.fabric (g.met.F.Fabric.sound c.args.self.now.fabric) c.args.output c.requires.fabric_value) c.requires.group_value in
+    record {
+      answer = c.set.ensures.answer ∙ other_inside 256 8 s.masks c.args.output c.args.group c.args.bit inside;
+      after = ap (λ (f : ℕ → ℕ → Bool). with_masks f s) (c.set.ensures.after ∙ bit_put_inside 256 8 s.masks c.args.output c.args.group c.args.bit inside);
+    }

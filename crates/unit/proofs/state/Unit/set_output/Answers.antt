@@ -1,7 +1,7 @@
 use Rattle.std.proofs.Common.{◌≡◌, None, Option, refl, ap, ◌∙◌}
 use Rattle.std.proofs.lemmas.Result.{err_from_is_err_and}
-use Rattle.protocol.specs.Commands.{set_output}
-use Rattle.protocol.specs.declared.reply.Reply.TheVariants.{OutputSet}
+use Rattle.packets.specs.Commands.{set_output}
+use Rattle.replies.specs.declared.reply.Reply.TheVariants.{OutputSet}
 use Rattle.rules.specs.declared.fault.CommandFault.{CommandFault}
 use Rattle.rules.specs.Switching.{do_set}
 use Rattle.rules.specs.Commands.{fault_of}

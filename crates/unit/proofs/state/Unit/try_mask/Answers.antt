@@ -1,7 +1,7 @@
 -- ZA is refused by the cause that was found, or carried out.
 use Rattle.std.proofs.Common.{eqb, Option, sym, ap, ◌∙◌}
 use Rattle.std.proofs.lemmas.Result.{err_from_is_err_and}
-use Rattle.protocol.specs.Commands.{set_mask}
+use Rattle.packets.specs.Commands.{set_mask}
 use Rattle.rules.specs.declared.fault.CommandFault.{CommandFault}
 use Rattle.rules.specs.Commands.{fault_of, do_mask}
 use Rattle.unit.specs.Switches.{checked, unless_found}

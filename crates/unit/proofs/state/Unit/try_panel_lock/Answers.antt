@@ -5,7 +5,7 @@ use Rattle.rules.specs.declared.refusal.Refusal.{Refusal}
 use Rattle.rules.specs.declared.refusal.Refusal.TheVariants.{OutputLocked, CannotBeMade}
 use Rattle.rules.specs.Switching.{do_lock, may_lock, can_be_made, unless, first_of}
 use Rattle.rules.specs.Panel.{panel_refusal, lock_refusal}
-use Rattle.unit.specs.Switches.{lock_fault}
+use Rattle.unit.specs.Switches.{locking_fault}
 use Rattle.unit.specs.Units.{state_of}
 use Rattle.unit.proofs.Causes.{none_found, one_found, as_panel, panel_stopped, panel_refused}
 use Rattle.unit.proofs.state.Unit.try_panel_lock.Goals as goal
@@ -29,6 +29,6 @@ returns-in_err-lock g c =
     let p = err_from_is_err_and c.from_residual-in_err-lock.result c.from_residual-in_err-lock.ensures.1 in
     let none = none_found (panel_refusal s o i) c.check_panel.ensures.answer c.in_ok-check_panel.was in
     let link = ap (λ (y : Option Refusal). first_of (y ∷ unless (may_lock s o i) OutputLocked ∷ unless (can_be_made s o i) CannotBeMade ∷ [])) none ∙ as_panel (may_lock s o i) (can_be_made s o i) in
-    let found = one_found (lock_fault s o i) _ c.lock.ensures.answer c.in_err-lock.was in
-    let x = panel_refused s (do_lock s o i) (lock_refusal s o i) (lock_fault s o i) _ p.0 c.from_residual-in_err-lock.result _ link found p.1 p.2 c.lock.ensures.after in
+    let found = one_found (locking_fault s o i) _ c.lock.ensures.answer c.in_err-lock.was in
+    let x = panel_refused s (do_lock s o i) (lock_refusal s o i) (locking_fault s o i) _ p.0 c.from_residual-in_err-lock.result _ link found p.1 p.2 c.lock.ensures.after in
     record { answer = x.answer; after = x.after }

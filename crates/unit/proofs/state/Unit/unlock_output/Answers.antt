@@ -1,7 +1,7 @@
 use Rattle.std.proofs.Common.{◌≡◌, None, refl}
 use Rattle.std.proofs.lemmas.Result.{err_from_is_err_and}
-use Rattle.protocol.specs.Commands.{unlock_output}
-use Rattle.protocol.specs.declared.reply.Reply.TheVariants.{OutputUnlocked}
+use Rattle.packets.specs.Commands.{unlock_output}
+use Rattle.replies.specs.declared.reply.Reply.TheVariants.{OutputUnlocked}
 use Rattle.rules.specs.Commands.{fault_of}
 use Rattle.unit.specs.Units.{state_of}
 use Rattle.unit.proofs.Causes.{none_found, one_found, refused, accepted}

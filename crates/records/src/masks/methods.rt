@@ -1,0 +1,62 @@
+// The group masks of the outputs, by output number.
+ghost use Rattle.std.specs.Prelude.{◌≡◌, true, ◌&&◌};
+ghost use Rattle.fabric.specs.Meaning.{within};
+ghost use Rattle.records.specs.Tables.{put_bit_within, is_other_within};
+ghost use Rattle.rules.specs.State.{byte_of};
+ghost use Rattle.records.specs.Records.{masks_of};
+
+use super::Masks;
+use fabric::is_within;
+
+// Whether there is a bit for the output and the group.
+fn has_bit(output: u16, group: u8) -> bool
+    ensures { result ≡ (within output 256 && within group 8) }
+{
+    is_within(output, 256) && is_within(group as u16, 8)
+}
+
+impl Masks {
+    // Every bit is set.
+    pub fn new() -> Masks
+        ensures { masks_of result ≡ (λ o g. true) }
+    {
+        Masks { cells: [0xFF; 256] }
+    }
+
+    // Outside 1 to 256 every bit counts as set.
+    pub fn byte(&self, output: u16) -> u8
+        ensures { result ≡ byte_of (masks_of self.now output) }
+    {
+        if !is_within(output, 256) {
+            return 0xFF;
+        }
+        self.cells[output as usize - 1]
+    }
+
+    // Outside the outputs and the groups a bit counts as set.
+    pub fn bit(&self, output: u16, group: u8) -> bool
+        ensures { result ≡ masks_of self.now output group }
+    {
+        if !has_bit(output, group) {
+            return true;
+        }
+        self.cells[output as usize - 1] >> (group - 1) & 1 == 1
+    }
+
+    // Sets or clears a bit, and says whether it was another. Outside the outputs and the groups nothing is changed.
+    pub fn set(&mut self, output: u16, group: u8, bit: bool) -> bool
+        ensures answer { result ≡ is_other_within 256 8 (masks_of self.old) output group bit }
+        ensures after { masks_of self.new ≡ put_bit_within 256 8 (masks_of self.old) output group bit }
+    {
+        if !has_bit(output, group) {
+            return false;
+        }
+        if self.bit(output, group) == bit {
+            return false;
+        }
+        let cell = output as usize - 1;
+        let mask = self.cells[cell];
+        self.cells[cell] = mask ^ 1 << (group - 1);
+        true
+    }
+}

@@ -1,0 +1,73 @@
+// The users, by number.
+ghost use Rattle.std.specs.Prelude.{◌≡◌, true, []};
+ghost use Rattle.rules.specs.Commands.{is_user, user_with};
+ghost use Rattle.records.specs.UserNumbers.{is_user_number};
+ghost use Rattle.records.specs.Tables.{put_within};
+ghost use Rattle.records.specs.Records.{user_of, users_of};
+
+use super::{User, Users};
+use crate::bytes::same_bytes;
+use fabric::is_within;
+use replies::text::ShortText;
+
+// A user without a name and a password.
+fn nobody() -> User
+    ensures { user_of result ≡ record { name = []; password = [] } }
+{
+    User {
+        name: ShortText::empty(),
+        password: ShortText::empty(),
+    }
+}
+
+impl Users {
+    // No user has a name or a password.
+    pub fn new() -> Users
+        ensures { users_of result ≡ (λ u. record { name = []; password = [] }) }
+    {
+        Users {
+            cells: [nobody(); 8],
+        }
+    }
+
+    // Outside 1 to 8 a user has no name and no password.
+    pub fn get(&self, number: u8) -> User
+        ensures { user_of result ≡ users_of self.now number }
+    {
+        if !is_within(number as u16, 8) {
+            return nobody();
+        }
+        self.cells[number as usize - 1]
+    }
+
+    // Outside 1 to 8 nothing is changed.
+    pub fn enter(&mut self, number: u8, user: User)
+        ensures { users_of self.new ≡ put_within 8 (users_of self.old) number (user_of user) }
+    {
+        if !is_within(number as u16, 8) {
+            return;
+        }
+        self.cells[number as usize - 1] = user;
+    }
+
+    // Whether the user has this name and password.
+    fn is_user(&self, number: u8, name: &[u8], password: &[u8]) -> bool
+        ensures { result ≡ is_user (users_of self.now) name.now password.now number }
+    {
+        let user = self.get(number);
+        same_bytes(name, user.name.as_slice()) && same_bytes(password, user.password.as_slice())
+    }
+
+    // The smallest user with this name and password.
+    pub fn find(&self, name: &[u8], password: &[u8]) -> Option<u8>
+        ensures answer { result ≡ user_with (users_of self.now) name.now password.now }
+        ensures user { is_user_number result ≡ true }
+    {
+        for number in 1..9 {
+            if self.is_user(number, name, password) {
+                return Some(number);
+            }
+        }
+        None
+    }
+}

@@ -1,0 +1,77 @@
+-- The test of a reply is passed exactly if its numbers fit their places; what was written is what the test says, and its body is short.
+use Rattle.std.proofs.Common.{◌≡◌, ℕ, ◌≤◌, Bool, true, false, cond, ◌&&◌, ltb, leb, List, length, Ok, Err, Decides, Result, sym, refl, ap, ◌∙◌, arith}
+use Rattle.std.specs.List.{AllByRecursion}
+use Rattle.std.proofs.lemmas.Bool.{leb-true, le-leb, cond-true}
+use Rattle.std.proofs.lemmas.Bool.Decides.{Decides-and, Decides-ltb, Decides-like}
+use Rattle.std.proofs.ByRecursion.{Decides-by_and}
+use Rattle.wire.specs.declared.reply.SealedReply.{SealedReply}
+use Rattle.replies.specs.declared.change.Change.{Change}
+use Rattle.replies.specs.declared.reply.WriteFault.{WriteFault}
+use Rattle.replies.specs.declared.reply.WriteFault.TheVariants.{NumberTooLarge}
+use Rattle.replies.specs.Replies.{Contents, keypad_locked, keypad_unlocked, output_locked, output_set, output_unlocked, ethernet_changed, mask_set, flags, version, keypad_state, feeding_input, status, changes, login, logged_in, Reply, ack, nak, contents_bytes, longest_body, reply_bytes, small_change, all_small, fits_contents, fits_reply, SmallChange, FitsContents, Fits, TestTellsWhatFits, RepliesAreShort}
+use Rattle.replies.specs.Replying.{Written, written_result, write_answer}
+use Rattle.replies.proofs.Entries.{entries-length}
+
+decides_leb : (a b : ℕ) → Decides (leb a b) (a ≤ b)
+decides_leb a b = (leb-true a b, le-leb a b)
+
+always : Decides true (Unit {0})
+always = (λ _. tt, λ _. refl)
+
+small : (c : Change) → Decides (small_change c) (SmallChange c)
+small c = Decides-and (ltb c.output 1000) (ltb c.input 1000) (Decides-ltb c.output 1000) (Decides-ltb c.input 1000)
+
+each_small : (cs : List Change) → Decides (all_small cs) (AllByRecursion SmallChange cs)
+each_small cs = Decides-by_and small_change SmallChange all_small small refl (λ _ _. refl) cs
+
+contents_test : (c : Contents) → Decides (fits_contents c) (FitsContents c)
+contents_test keypad_locked = always
+contents_test keypad_unlocked = always
+contents_test output_locked = always
+contents_test output_set = always
+contents_test output_unlocked = always
+contents_test ethernet_changed = always
+contents_test mask_set = always
+contents_test (flags e m v) = always
+contents_test (version i o) = Decides-and (ltb i 1000) (ltb o 1000) (Decides-ltb i 1000) (Decides-ltb o 1000)
+contents_test (keypad_state l) = always
+contents_test (feeding_input i) = Decides-ltb i 1000
+contents_test (status i l m) = Decides-and (ltb i 1000) (ltb m 256) (Decides-ltb i 1000) (Decides-ltb m 256)
+contents_test (changes cs) = Decides-and (leb (length cs) 8) (all_small cs) (decides_leb (length cs) 8) (each_small cs)
+contents_test (login u g n) =
+    let behind = Decides-and (ltb g 10) (leb (length n) 10) (Decides-ltb g 10) (decides_leb (length n) 10) in
+    Decides-like (ltb u 10 && (ltb g 10 && leb (length n) 10)) (λ h. (h.0, h.1.0, h.1.1)) (λ h. (h.0, (h.1, h.2))) (Decides-and (ltb u 10) (ltb g 10 && leb (length n) 10) (Decides-ltb u 10) behind)
+contents_test (logged_in u g) = Decides-and (ltb u 10) (ltb g 10) (Decides-ltb u 10) (Decides-ltb g 10)
+
+pub test_tells : (r : Reply) → TestTellsWhatFits r
+test_tells (ack c) = contents_test c
+test_tells (nak x) = always
+
+refused : (h l : ℕ) (r : Reply) (b : Bool) → fits_reply r ≡ b → (Fits r → ⊥) → Err NumberTooLarge ≡ cond b (Ok (reply_bytes h l r)) (Err NumberTooLarge)
+refused h l r true e unfit = absurd (unfit ((test_tells r).0 e))
+refused h l r false e unfit = refl
+
+pub by_value : (h l : ℕ) (r : Reply) (x : Result SealedReply WriteFault) → Written h l r x → written_result x ≡ write_answer h l r
+by_value h l r (Ok s) w = ap (λ (b : List ℕ). Ok b) w.1 ∙ sym (cond-true _ _ _ ((test_tells r).1 w.0))
+by_value h l r (Err f) w = ap (λ (g : WriteFault). Err g) w.0 ∙ refused h l r (fits_reply r) refl w.1
+
+short_contents : (c : Contents) → FitsContents c → length (contents_bytes c) ≤ longest_body
+short_contents keypad_locked f = omega arith
+short_contents keypad_unlocked f = omega arith
+short_contents output_locked f = omega arith
+short_contents output_set f = omega arith
+short_contents output_unlocked f = omega arith
+short_contents ethernet_changed f = omega arith
+short_contents mask_set f = omega arith
+short_contents (flags e m v) f = omega arith
+short_contents (version i o) f = omega arith
+short_contents (keypad_state l) f = omega arith
+short_contents (feeding_input i) f = omega arith
+short_contents (status i l m) f = omega arith
+short_contents (changes cs) f = omega (arith, entries-length cs, f.0)
+short_contents (login u g n) f = omega (arith, f.2)
+short_contents (logged_in u g) f = omega arith
+
+pub short : (r : Reply) → RepliesAreShort r
+short (ack c) f = short_contents c f
+short (nak x) f = omega arith

@@ -1,0 +1,10 @@
+pub mod Texts
+pub mod Sizes
+pub mod Bodies
+pub mod Entries
+pub mod ReadBack
+pub mod Prefixes
+pub mod Ends
+pub mod Fitting
+pub mod FieldsRead
+pub mod OnlyWritten

@@ -1,7 +1,0 @@
--- Each cell says that its output is not locked.
-use Rattle.std.proofs.Common.{false}
-use Rattle.unit.proofs.Cells.{at_start}
-use Rattle.unit.proofs.locks.Locks.new.Goals as goal
-
-pub returns : goal.returns
-returns c = λ i o. at_start 256 false o i
