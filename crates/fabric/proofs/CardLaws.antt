@@ -2,9 +2,8 @@
 use Rattle.std.proofs.Common.{◌≡◌, ℕ, ◌-◌, ◌<◌, ◌≤◌, true, ◌&&◌, List, length, set, replicate, refl, arith}
 use Rattle.std.proofs.lemmas.Bool.Decides.{nat_tests}
 use Rattle.std.proofs.lemmas.List.{get_or-set_same, get_or-set_other, get_or-replicate}
-use Rattle.std.proofs.lemmas.Bool.{cases_eq}
 use Rattle.fabric.specs.Meaning.{within, routed}
-use Rattle.fabric.specs.Cards.{card_of, started, CardSized, AllFed}
+use Rattle.fabric.specs.Cards.{card_of, started, AllFed}
 use Rattle.fabric.proofs.Means.{same_meaning}
 
 module _ (i o : ℕ) (xs : List ℕ) (k j : ℕ) (long : o ≤ length xs) (inside : (within k o && within j i) ≡ true) where
@@ -14,10 +13,7 @@ module _ (i o : ℕ) (xs : List ℕ) (k j : ℕ) (long : o ≤ length xs) (insid
       (λ x. grind (arith, nat_tests, get_or-set_same, get_or-set_other))
       (λ x y. refl)
 
-  pub card_fed : AllFed i o xs → AllFed i o (set xs (k - 1) j)
-  card_fed fed x h = grind (arith, nat_tests, get_or-set_same, get_or-set_other, cases_eq x (k - 1), fed x h)
-
-module _ (i o : ℕ) (sized : CardSized i o) where
+module _ (i o : ℕ) (some : 1 ≤ i) (few : o ≤ 256) where
   pub start_fed : AllFed i o (replicate 256 1)
   start_fed x h = let l : x < 256 = omega arith in rw (get_or-replicate {A = ℕ} 256 x 1 0 l) (grind (arith, nat_tests))
 

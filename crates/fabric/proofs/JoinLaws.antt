@@ -1,9 +1,9 @@
--- A join is sound; each input behaves as in the fabric that has it; what a routing leaves in the two fabrics and selects is what it does to the join.
+-- Each input of a join behaves as in the fabric that has it; what a routing leaves in the two fabrics and selects is what it does to the join.
 use Rattle.std.specs.Prelude.{◌≡◌, ℕ, ◌+◌, ◌-◌, ◌<◌, ◌≤◌, Bool, true, false, cond, not, ◌&&◌, leb, ◌==◌, nat_le, refl}
 use Rattle.std.proofs.Common.{sym, ap, ◌∙◌, arith}
 use Rattle.std.proofs.lemmas.Bool.Decides.{nat_tests}
 use Rattle.std.proofs.lemmas.Bool.{and_parts, and_from, le-leb, lt-leb, leb-false, both_ways}
-use Rattle.fabric.specs.Meaning.{Meaning, Sound, within, routed, after, answer}
+use Rattle.fabric.specs.Meaning.{Meaning, Sound, within, routed, after}
 use Rattle.fabric.specs.Joins.{joined, fits, all_inputs, fewer, covers, selecting, first_after, second_after, selected_after, cut}
 use Rattle.fabric.specs.Laws.{AsTheFirst, AsTheSecond, FirstInputsBehaveAsTheFirst, OtherInputsBehaveAsTheSecond, PastTheLimitTheFirstAlone}
 use Rattle.fabric.specs.Soundness.{within_min}
@@ -14,9 +14,6 @@ use Rattle.fabric.proofs.Means.{after_refused}
 
 some_of : (k n : ℕ) → within k n ≡ true → 1 ≤ k
 some_of k n h = grind (arith, nat_tests)
-
-pub wider : (k m n : ℕ) → within k m ≡ true → m ≤ n → within k n ≡ true
-wider k m n h l = grind (arith, nat_tests)
 
 covers_first : (fit : Bool) (i m n : ℕ) → within i m ≡ true → within i (cond fit (m + n) m) ≡ true
 covers_first true i m n h = grind (arith, nat_tests)
@@ -147,9 +144,6 @@ module _ (a b : Meaning) (second : ℕ → Bool) (o i : ℕ) where
     first_law : leb i a.inputs ≡ true → AsTheFirst a b second o i
     first_law h = as_first a b second sa sb o i output (and_from (nat_le 1 i) (nat_le i a.inputs) (le-leb 1 i (some_of i (all_inputs a b) input)) h)
 
-    pub in_first : leb i a.inputs ≡ true → (answer a o i ≡ answer (joined a b second) o i) × (after a o i ≡ first_after a b o i) × (b ≡ second_after a b o i)
-    in_first h = (sym (first_law h).answers, rw (inside, h), rw (inside, h))
-
     module _ (h : leb i a.inputs ≡ false) where
       back : a.inputs + (i - a.inputs) ≡ i
       back = let above : a.inputs < i = leb-false i a.inputs h in omega arith
@@ -159,9 +153,6 @@ module _ (a b : Meaning) (second : ℕ → Bool) (o i : ℕ) where
 
       second_law : AsTheSecond a b second o (i - a.inputs)
       second_law = as_second a b second sa sb o (i - a.inputs) output has.0 has.1
-
-      pub in_second : (answer b o (i - a.inputs) ≡ answer (joined a b second) o i) × (a ≡ first_after a b o i) × (after b o (i - a.inputs) ≡ second_after a b o i)
-      in_second = (sym second_law.answers ∙ ap (answer (joined a b second) o) back, rw (inside, h), rw (inside, h))
 
   module _ (sa : Sound a) (sb : Sound b) where
     pub parts_joined : joined (first_after a b o i) (second_after a b o i) (selected_after a b second o i) ≡ after (joined a b second) o i

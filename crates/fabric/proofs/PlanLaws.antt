@@ -1,45 +1,36 @@
--- Routings of two outputs in either order, how many of a list are accepted, and what they leave on an output.
-use Rattle.std.proofs.Common.{◌≡◌, ℕ, ◌+◌, ◌<◌, Bool, true, false, cond, not, ◌&&◌, eqb, ◌≢◌, List, [], ◌∷◌, ◌++◌, length, get_or, drop, is_ok, Result, sym, refl, ap, ◌∙◌, arith}
+-- How many of a list of routings are accepted, and what they leave on an output.
+use Rattle.std.proofs.Common.{◌≡◌, ℕ, ◌+◌, ◌<◌, Bool, true, false, cond, not, ◌&&◌, eqb, List, [], ◌∷◌, ◌++◌, length, get_or, drop, is_ok, Result, sym, refl, ap, ◌∙◌, arith}
 use Rattle.std.proofs.lemmas.Bool.Decides.{nat_tests}
 use Rattle.std.proofs.lemmas.Bool.{and_parts}
 use Rattle.std.proofs.lemmas.List.{at_drop_more}
 use Rattle.fabric.specs.declared.fault.RouteFault.{RouteFault}
 use Rattle.fabric.specs.Meaning.{Meaning, Sound, routed, after, answer}
 use Rattle.fabric.specs.Plans.{after_all, accepted, can_be_made, makeable_of, sets, none_sets}
-use Rattle.fabric.specs.Laws.{TwoOutputsInEitherOrder, AcceptedAreThoseThatCanBeMade, LastAcceptedStays}
-use Rattle.fabric.proofs.Means.{same_meaning}
+use Rattle.fabric.specs.Laws.{AcceptedAreThoseThatCanBeMade, LastAcceptedStays}
 use Rattle.fabric.proofs.Means.{made_by_answer}
 
 -- a routing changes neither the counts nor which pairs can be made
 module _ (m : Meaning) (o i : ℕ) where
-  answer_by : (b : Bool) (p j : ℕ) → answer (cond b (routed m o i) m) p j ≡ answer m p j
-  answer_by true p j = refl
-  answer_by false p j = refl
+  -- what a routing that is made leaves as it was, any routing does
+  stays : {A : Type 0} (f : Meaning → A) → f (routed m o i) ≡ f m → f (after m o i) ≡ f m
+  stays f e = by (m.makeable o i)
+    where
+      by : (b : Bool) → f (cond b (routed m o i) m) ≡ f m
+      by true = e
+      by false = refl
 
-  pub answer_after : (p j : ℕ) → answer (after m o i) p j ≡ answer m p j
-  answer_after = answer_by (m.makeable o i)
-
-  none_by : (b : Bool) (k : ℕ) (ps : List (ℕ × ℕ)) → none_sets (cond b (routed m o i) m) k ps ≡ none_sets m k ps
-  none_by true k [] = refl
-  none_by true k (p ∷ ps) = ap (λ t. not (sets m k p) && t) (none_by true k ps)
-  none_by false k ps = refl
+  none_routed : (k : ℕ) (ps : List (ℕ × ℕ)) → none_sets (routed m o i) k ps ≡ none_sets m k ps
+  none_routed k [] = refl
+  none_routed k (p ∷ ps) = ap (λ t. not (sets m k p) && t) (none_routed k ps)
 
   none_after : (k : ℕ) (ps : List (ℕ × ℕ)) → none_sets (after m o i) k ps ≡ none_sets m k ps
-  none_after = none_by (m.makeable o i)
-
-  made_by : (b : Bool) (p j : ℕ) → (cond b (routed m o i) m).makeable p j ≡ m.makeable p j
-  made_by true p j = refl
-  made_by false p j = refl
+  none_after k ps = stays (λ n. none_sets n k ps) (none_routed k ps)
 
   made_after : (p j : ℕ) → (after m o i).makeable p j ≡ m.makeable p j
-  made_after = made_by (m.makeable o i)
-
-  makeable_by : (b : Bool) (ps : List (ℕ × ℕ)) → makeable_of (cond b (routed m o i) m) ps ≡ makeable_of m ps
-  makeable_by true ps = refl
-  makeable_by false ps = refl
+  made_after p j = stays (λ n. n.makeable p j) refl
 
   makeable_after : (ps : List (ℕ × ℕ)) → makeable_of (after m o i) ps ≡ makeable_of m ps
-  makeable_after = makeable_by (m.makeable o i)
+  makeable_after ps = stays (λ n. makeable_of n ps) refl
 
   fed_by : (b : Bool) (k : ℕ) → (cond b (routed m o i) m).feeding k ≡ cond (eqb k o && b) i (m.feeding k)
   fed_by true k = grind (arith, nat_tests)
@@ -47,23 +38,6 @@ module _ (m : Meaning) (o i : ℕ) where
 
   fed_after : (k : ℕ) → (after m o i).feeding k ≡ cond (eqb k o && m.makeable o i) i (m.feeding k)
   fed_after = fed_by (m.makeable o i)
-
-module _ (m : Meaning) (x y : ℕ × ℕ) (apart : x.0 ≢ y.0) where
-  two_routed : routed (routed m x.0 x.1) y.0 y.1 ≡ routed (routed m y.0 y.1) x.0 x.1
-  two_routed =
-      same_meaning (routed (routed m x.0 x.1) y.0 y.1) (routed (routed m y.0 y.1) x.0 x.1) refl refl
-      (λ k. grind (arith, nat_tests))
-      (λ k j. refl)
-
-  either_by : (a b : Bool) → m.makeable x.0 x.1 ≡ a → m.makeable y.0 y.1 ≡ b →
-      after (after m x.0 x.1) y.0 y.1 ≡ after (after m y.0 y.1) x.0 x.1
-  either_by true true p q = rw (p, q, p) two_routed
-  either_by true false p q = rw (p, q, p)
-  either_by false true p q = rw (p, q, p)
-  either_by false false p q = rw (p, q, p)
-
-pub either_order : (m : Meaning) (x y : ℕ × ℕ) → TwoOutputsInEitherOrder m x y
-either_order m x y apart = either_by m x y apart (m.makeable x.0 x.1) (m.makeable y.0 y.1) refl refl
 
 count_by : (t : Bool) (n : ℕ) (p : ℕ × ℕ) (ps : List (ℕ × ℕ)) → n ≡ length ps → cond t 1 0 + n ≡ length (cond t (p ∷ ps) ps)
 count_by true n p ps e = omega arith

@@ -1,8 +1,7 @@
 -- A swap goes along with a routing, and done twice is the fabric below.
-use Rattle.std.specs.Prelude.{◌≡◌, ℕ, Bool, true, false, cond, Result, ◌==◌, refl}
-use Rattle.std.proofs.Common.{sym, ap, ◌∙◌, arith}
+use Rattle.std.specs.Prelude.{◌≡◌, ℕ, Bool, true, false, cond, ◌==◌, refl}
+use Rattle.std.proofs.Common.{sym, ap, arith}
 use Rattle.std.proofs.lemmas.Bool.Decides.{nat_tests}
-use Rattle.fabric.specs.declared.fault.RouteFault.{RouteFault}
 use Rattle.fabric.specs.Meaning.{Meaning, routed, after, answer}
 use Rattle.fabric.specs.Swaps.{exchanged, swapped}
 use Rattle.fabric.specs.Laws.{SwappedTwiceIsTheFabricBelow, SwappedRoutesTheExchangedInput}
@@ -39,11 +38,3 @@ module _ (m : Meaning) (p q : ℕ) where
 
   pub routes_exchanged : SwappedRoutesTheExchangedInput m p q
   routes_exchanged = record { answers = swap_answer; changes = swap_changes }
-
-  module _ (o i : ℕ) where
-    pub swap_routed : (r : Result (Unit {0}) RouteFault) (m' : Meaning) (x : ℕ) → x ≡ exchanged m.inputs p q i → r ≡ answer m o x → m' ≡ after m o x →
-        (r ≡ answer (swapped m p q) o i) × (swapped m' p q ≡ after (swapped m p q) o i)
-    swap_routed r m' x e answers changes = (
-      answers ∙ ap (answer m o) e ∙ sym (swap_answer o i),
-      ap (λ (n : Meaning). swapped n p q) (changes ∙ ap (after m o) e) ∙ sym (swap_changes o i),
-    )

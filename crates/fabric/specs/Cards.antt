@@ -4,9 +4,8 @@
 --   started i o      i inputs and o outputs, every output on input 1, and every pair can be made
 --   new_card i o     a card as it starts, for the sizes asked for
 --   card_of i o xs   a card with the feeding inputs xs
---   CardSized i o    the sizes are inside a card's limits
 --   AllFed i o xs    each of the first o numbers of xs is one of the inputs
-use Rattle.std.specs.Prelude.{◌≡◌, ℕ, ◌-◌, ◌<◌, ◌≤◌, min, max, true, cond, ◌&&◌, List, slice_index}
+use Rattle.std.specs.Prelude.{◌≡◌, ℕ, ◌-◌, ◌<◌, min, max, true, cond, ◌&&◌, List, slice_index}
 use Rattle.fabric.specs.Meaning.{Meaning, most_inputs, most_outputs, within}
 
 abbrev pub nearest : ℕ → ℕ → ℕ
@@ -30,9 +29,6 @@ card_of i o xs = record {
   feeding = λ k. cond (within k o) (slice_index xs (k - 1)) 0;
   makeable = λ k j. within k o && within j i;
 }
-
-abbrev pub CardSized : ℕ → ℕ → Type 0
-CardSized i o = (1 ≤ i) × (i ≤ most_inputs) × (1 ≤ o) × (o ≤ most_outputs)
 
 abbrev pub AllFed : ℕ → ℕ → List ℕ → Type 0
 AllFed i o xs = (k : ℕ) → k < o → within (slice_index xs k) i ≡ true

@@ -1,14 +1,14 @@
 -- What each kind of fabric means, as a value of its type. What is below a join or a swap comes with its own meaning.
 --
 --   card_meaning    a card
---   setup_meaning   the bank that a setup gives
 --   bank_meaning    a bank of relays
+--   setup_meaning   the bank that a setup gives
 --   side_of a i     the side that has input i, where a is first
 --   is_second       the second side
 --   chosen xs o     the second side stands in xs for output o, at o - 1
 --   join_meaning    a join, from what its two fabrics mean
 --   swap_meaning    a swap, from what the fabric below means
-use Rattle.std.specs.Prelude.{ℕ, ◌-◌, Bool, true, false, cond, ◌&&◌, List, replicate, nat_le, slice_index_or}
+use Rattle.std.specs.Prelude.{ℕ, ◌-◌, Bool, true, false, cond, ◌&&◌, List, nat_le, slice_index_or}
 use Rattle.fabric.specs.declared.card.Card.{Card}
 use Rattle.fabric.specs.declared.bank.BankSetup.{BankSetup}
 use Rattle.fabric.specs.declared.bank.RelayBank.{RelayBank}
@@ -18,18 +18,18 @@ use Rattle.fabric.specs.declared.join.Side.TheVariants.{First, Second}
 use Rattle.fabric.specs.declared.swap.Swap.{Swap}
 use Rattle.fabric.specs.Meaning.{Meaning}
 use Rattle.fabric.specs.Cards.{card_of}
-use Rattle.fabric.specs.Banks.{most_relays, bank_of}
+use Rattle.fabric.specs.Banks.{bank_of}
 use Rattle.fabric.specs.Joins.{joined}
 use Rattle.fabric.specs.Swaps.{swapped}
 
 abbrev pub card_meaning : Card → Meaning
-card_meaning c = card_of c.inputs c.outputs c.from
-
-abbrev pub setup_meaning : BankSetup → Meaning
-setup_meaning b = bank_of b.inputs b.outputs (replicate most_relays 1) b.bad
+card_meaning c = card_of c.size.inputs c.size.outputs c.from
 
 abbrev pub bank_meaning : RelayBank → Meaning
-bank_meaning b = bank_of b.inputs b.outputs b.rows b.bad
+bank_meaning b = bank_of b.size.inputs b.size.outputs b.rows
+
+abbrev pub setup_meaning : BankSetup → Meaning
+setup_meaning s = bank_meaning s.bank
 
 abbrev pub side_of : Meaning → ℕ → Side
 side_of a i = cond (nat_le i a.inputs) First Second

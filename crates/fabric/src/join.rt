@@ -1,14 +1,14 @@
 // Two fabrics as one: the inputs of the first, then those of the second.
-ghost use Rattle.std.specs.Prelude.{◌≡◌, true, ◌&&◌};
+ghost use Rattle.std.specs.Prelude.{◌≡◌, true};
 ghost use Rattle.fabric.specs.Meaning.{most_outputs, within, answer};
-ghost use Rattle.fabric.specs.Joins.{fits as both_fit, covers, joined, new_join, selecting, first_after, second_after, selected_after};
+ghost use Rattle.fabric.specs.Joins.{fits as both_fit, covers, new_join, selecting, first_after, second_after, selected_after};
 ghost use Rattle.fabric.specs.Kinds.{is_second, side_of, chosen, join_meaning};
 ghost use Rattle.fabric.specs.Laws.{InputsBehaveAsInTheirFabrics};
 ghost use Rattle.fabric.specs.Soundness.{join_sound};
 
 use crate::{Fabric, MOST_INPUTS, RouteFault, is_within};
 
-#[derive(Clone, Copy)]
+#[derive(Clone, Copy, PartialEq, Eq, Debug)]
 pub enum Side {
     First,
     Second,
@@ -30,7 +30,11 @@ impl<F: Fabric, G: Fabric> Join<F, G> {
         ensures first { F.Fabric.meaning result.first ≡ F.Fabric.meaning first }
         ensures second { G.Fabric.meaning result.second ≡ G.Fabric.meaning second }
     {
-        Join::on_side(first, second, Side::First)
+        Join {
+            first,
+            second,
+            selected: [Side::First; 256],
+        }
     }
 
     // How many of the inputs are those of the first fabric; any others are those of the second.
@@ -41,24 +45,19 @@ impl<F: Fabric, G: Fabric> Join<F, G> {
         self.first.inputs()
     }
 
-    // A join with one side selected for every output.
-    fn on_side(first: F, second: G, side: Side) -> Join<F, G>
-        ensures meaning { join_meaning F.Fabric.meaning G.Fabric.meaning result ≡ joined (F.Fabric.meaning first) (G.Fabric.meaning second) (λ o. is_second side && within o most_outputs) }
-        ensures first { F.Fabric.meaning result.first ≡ F.Fabric.meaning first }
-        ensures second { G.Fabric.meaning result.second ≡ G.Fabric.meaning second }
-    {
-        Join {
-            first,
-            second,
-            selected: [side; 256],
-        }
-    }
-
     // Whether the inputs of both are few enough for one fabric.
     fn fits(&self) -> bool
         ensures { result ≡ both_fit (F.Fabric.meaning self.now.first) (G.Fabric.meaning self.now.second) }
     {
         self.first.inputs() + self.second.inputs() <= MOST_INPUTS
+    }
+
+    // Whether an output and an input are inside the counts of both as one.
+    fn has_pair(&self, output: u16, input: u16) -> bool
+        ensures answer { result ≡ covers (F.Fabric.meaning self.now.first) (G.Fabric.meaning self.now.second) output input }
+        ensures outputs { result ≡ true → within output most_outputs ≡ true }
+    {
+        is_within(output, self.outputs()) && is_within(input, self.inputs())
     }
 
     // The fabric that has an input.
@@ -73,13 +72,14 @@ impl<F: Fabric, G: Fabric> Join<F, G> {
     }
 
     // Routes in the fabric that has the input, and selects it for the output if it accepts. The other fabric stays as it is.
+    // Apart from the trait's `route`: one function is no plainer, since the trait's promise cannot speak of the two fabrics.
     pub fn route_in_part(&mut self, output: u16, input: u16) -> Result<(), RouteFault>
         ensures answer { result ≡ answer (join_meaning F.Fabric.meaning G.Fabric.meaning self.old) output input }
         ensures first { F.Fabric.meaning self.new.first ≡ first_after (F.Fabric.meaning self.old.first) (G.Fabric.meaning self.old.second) output input }
         ensures second { G.Fabric.meaning self.new.second ≡ second_after (F.Fabric.meaning self.old.first) (G.Fabric.meaning self.old.second) output input }
         ensures selected { chosen self.new.selected ≡ selected_after (F.Fabric.meaning self.old.first) (G.Fabric.meaning self.old.second) (chosen self.old.selected) output input }
     {
-        if !is_within(output, self.outputs()) || !is_within(input, self.inputs()) {
+        if !self.has_pair(output, input) {
             return Err(RouteFault::OutOfRange);
         }
         let side = self.side_of(input);
@@ -144,7 +144,7 @@ impl<F: Fabric, G: Fabric> Fabric for Join<F, G> {
     }
 
     fn can_make(&self, output: u16, input: u16) -> bool {
-        if !is_within(output, self.outputs()) || !is_within(input, self.inputs()) {
+        if !self.has_pair(output, input) {
             return false;
         }
         match self.side_of(input) {

@@ -2,7 +2,6 @@
 #![tactic(auto)]
 
 ghost use Rattle.std.specs.Prelude.{◌≡◌};
-ghost use Rattle.fabric.specs.Cards.{nearest as nearest_size};
 ghost use Rattle.fabric.specs.Meaning.{Meaning, Sound, answer, after, within};
 
 mod bank;
@@ -10,6 +9,7 @@ mod card;
 mod fault;
 mod join;
 mod plan;
+mod size;
 mod swap;
 
 pub use bank::{BankSetup, RelayBank};
@@ -25,6 +25,7 @@ const MOST_INPUTS: u16 = 999;
 const MOST_OUTPUTS: u16 = 256;
 
 // Something that feeds each of its outputs from one of its inputs. Questions change nothing.
+// An output and an input stay two numbers: a struct is no plainer, since each is judged by a count of its own.
 pub trait Fabric {
     ghost meaning: { Self → Meaning };
 
@@ -35,6 +36,7 @@ pub trait Fabric {
         ensures { result ≡ (meaning self.now).outputs };
 
     // The input that feeds an output; 0 for an output outside the count.
+    // A number: an `Option` is no plainer, since callers ask for outputs that they have checked, and would only take it apart.
     fn feeding(&self, output: u16) -> u16
         ensures { result ≡ (meaning self.now).feeding output };
 
@@ -55,12 +57,5 @@ pub trait Fabric {
 pub fn is_within(number: u16, count: u16) -> bool
     ensures { result ≡ within number count }
 {
-    1 <= number && number <= count
-}
-
-// `size`, or the nearest of 1 to `most`.
-fn nearest(size: u16, most: u16) -> u16
-    ensures { result ≡ nearest_size size most }
-{
-    size.min(most).max(1)
+    (1..=count).contains(&number)
 }

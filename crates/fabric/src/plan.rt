@@ -6,6 +6,8 @@ ghost use Rattle.fabric.specs.Laws.{TwoOutputsInEitherOrder, AcceptedAreThoseTha
 
 use crate::{Fabric, RouteFault};
 
+// A routing stays a pair: a struct is no plainer, since a plan is written `[(1, 2), (1, 3)]`, and its rules are over lists of pairs.
+
 // Routes two pairs, each an output and an input. The order matters only for one and the same output.
 pub fn route_both<F: Fabric>(
     fabric: &mut F,
@@ -16,8 +18,8 @@ pub fn route_both<F: Fabric>(
     ensures after { F.meaning fabric.new ≡ after (after (F.meaning fabric.old) one.0 one.1) other.0 other.1 }
     ensures law { TwoOutputsInEitherOrder (F.meaning fabric.old) one other }
 {
-    let first = route_pair(fabric, one);
-    let second = route_pair(fabric, other);
+    let first = fabric.route(one.0, one.1);
+    let second = fabric.route(other.0, other.1);
     (first, second)
 }
 
@@ -28,18 +30,12 @@ pub fn route_all<F: Fabric>(fabric: &mut F, plan: &[(u16, u16)]) -> usize
     ensures count { AcceptedAreThoseThatCanBeMade (F.meaning fabric.old) plan.now }
     ensures law { LastAcceptedStays (F.meaning fabric.old) plan.now (F.meaning fabric.new) }
 {
+    // A loop: an iterator chain is no plainer, since its filter would have to change the fabric.
     let mut done = 0;
-    for pair in plan {
-        if route_pair(fabric, *pair).is_ok() {
+    for &(output, input) in plan {
+        if fabric.route(output, input).is_ok() {
             done += 1;
         }
     }
     done
-}
-
-fn route_pair<F: Fabric>(fabric: &mut F, pair: (u16, u16)) -> Result<(), RouteFault>
-    ensures answer { result ≡ answer (F.meaning fabric.old) pair.0 pair.1 }
-    ensures after { F.meaning fabric.new ≡ after (F.meaning fabric.old) pair.0 pair.1 }
-{
-    fabric.route(pair.0, pair.1)
 }

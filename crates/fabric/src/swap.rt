@@ -22,17 +22,10 @@ impl<F: Fabric> Swap<F> {
         Swap { below, p, q }
     }
 
-    // The number that `input` has in the fabric below.
+    // The number that `input` has in the fabric below; also the other way round, since an exchange undoes itself.
     pub fn input_below(&self, input: u16) -> u16
         ensures answer { result ≡ exchanged (F.Fabric.meaning self.now.below).inputs self.now.p self.now.q input }
         ensures law { SwappedRoutesTheExchangedInput (F.Fabric.meaning self.now.below) self.now.p self.now.q }
-    {
-        self.across(input)
-    }
-
-    // The same, and the other way round.
-    fn across(&self, input: u16) -> u16
-        ensures { result ≡ exchanged (F.Fabric.meaning self.now.below).inputs self.now.p self.now.q input }
     {
         let count = self.below.inputs();
         if !is_within(self.p, count) || !is_within(self.q, count) {
@@ -70,7 +63,7 @@ impl<F: Fabric> Fabric for Swap<F> {
     }
 
     fn feeding(&self, output: u16) -> u16 {
-        self.across(self.below.feeding(output))
+        self.input_below(self.below.feeding(output))
     }
 
     fn can_make(&self, output: u16, input: u16) -> bool {
@@ -79,7 +72,6 @@ impl<F: Fabric> Fabric for Swap<F> {
 
     fn route(&mut self, output: u16, input: u16) -> Result<(), RouteFault> {
         let input = self.input_below(input);
-        self.below.route(output, input)?;
-        Ok(())
+        self.below.route(output, input)
     }
 }

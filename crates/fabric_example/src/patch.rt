@@ -25,6 +25,14 @@ impl PatchField {
     }
 }
 
+impl Default for PatchField {
+    ghost is_default = { λ p. patch_meaning p ≡ new_patch };
+
+    fn default() -> PatchField {
+        PatchField::new()
+    }
+}
+
 impl Fabric for PatchField {
     ghost meaning = { patch_meaning };
 

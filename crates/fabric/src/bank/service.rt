@@ -1,14 +1,14 @@
 // A bank in service.
-ghost use Rattle.std.specs.Prelude.{◌≡◌, ◌-◌, true, ◌&&◌, slice_index};
+ghost use Rattle.std.specs.Prelude.{◌≡◌, true, ◌&&◌};
 ghost use Rattle.fabric.specs.Meaning.{within, routed};
-ghost use Rattle.fabric.specs.Banks.{is_on, closed, OneClosed, relay_row};
+ghost use Rattle.fabric.specs.Banks.{is_on, closed, OneClosed, relay_row, row_of};
 ghost use Rattle.fabric.specs.Kinds.{bank_meaning};
 ghost use Rattle.fabric.specs.Laws.{OnlyTheFeedingRelayIsClosed};
-ghost use Rattle.std.proofs.Common.{rules, arith};
+ghost use Rattle.fabric.specs.Soundness.{bank_sound};
 
 use super::RelayBank;
-use super::setup::relay;
-use crate::{Fabric, RouteFault, is_within};
+use super::row::relay;
+use crate::{Fabric, RouteFault};
 
 impl RelayBank {
     // The row of an output, with the relay of input j at bit j - 1; no relay for an output outside the count.
@@ -16,56 +16,54 @@ impl RelayBank {
         ensures answer { result ≡ relay_row (bank_meaning self.now) output }
         ensures law { OnlyTheFeedingRelayIsClosed (bank_meaning self.now) output result }
     {
-        if !is_within(output, self.outputs) {
+        if !self.size.has_output(output) {
             return 0;
         }
-        self.rows[output as usize - 1]
+        self.rows[output as usize - 1].closed
     }
 
     // Sets the relays of an output, of which exactly one is closed.
     fn connect(&mut self, output: u16, row: u16)
-        requires { (within output self.old.outputs ≡ true) × (OneClosed self.old.inputs row) }
+        requires { (within output self.old.size.outputs ≡ true) × (OneClosed self.old.size.inputs row) }
         ensures { bank_meaning self.new ≡ routed (bank_meaning self.old) output (closed row) }
     {
-        self.rows[output as usize - 1] = row;
+        self.rows[output as usize - 1].closed = row;
     }
 
     fn is_bad(&self, output: u16, input: u16) -> bool
-        requires { (within output self.now.outputs && within input self.now.inputs) ≡ true }
-        ensures { result ≡ is_on (slice_index self.now.bad (output - 1)) input }
+        requires { (within output self.now.size.outputs && within input self.now.size.inputs) ≡ true }
+        ensures { result ≡ is_on (row_of self.now.rows output).bad input }
     {
-        (self.bad[output as usize - 1] >> (input - 1)) & 1 == 1
+        (self.rows[output as usize - 1].bad >> (input - 1)) & 1 == 1
     }
 }
 
 impl Fabric for RelayBank {
     ghost meaning = { bank_meaning };
 
-    ghost sound = { first_of (Prim.search rules, Prim.grind (arith, Self.row.coded.inj)) };
+    ghost sound = { λ b. bank_sound b.size b.rows b.one };
 
     fn inputs(&self) -> u16 {
-        self.inputs
+        self.size.inputs
     }
 
     fn outputs(&self) -> u16 {
-        self.outputs
+        self.size.outputs
     }
 
     fn feeding(&self, output: u16) -> u16 {
-        if !is_within(output, self.outputs) {
+        if !self.size.has_output(output) {
             return 0;
         }
-        self.rows[output as usize - 1].trailing_zeros() as u16 + 1
+        self.rows[output as usize - 1].closed.trailing_zeros() as u16 + 1
     }
 
     fn can_make(&self, output: u16, input: u16) -> bool {
-        is_within(output, self.outputs)
-            && is_within(input, self.inputs)
-            && !self.is_bad(output, input)
+        self.size.has_pair(output, input) && !self.is_bad(output, input)
     }
 
     fn route(&mut self, output: u16, input: u16) -> Result<(), RouteFault> {
-        if !is_within(output, self.outputs) || !is_within(input, self.inputs) {
+        if !self.size.has_pair(output, input) {
             return Err(RouteFault::OutOfRange);
         }
         if self.is_bad(output, input) {

@@ -11,14 +11,14 @@ counting : (t : Bool) → (d n u v w : ℕ) → d ≤ n → d + u ≡ w → u �
 counting true d n u v w l e f = (omega arith, omega arith)
 counting false d n u v w l e f = (omega arith, omega arith)
 
-pub loop-pair-preserved : goal.loop-pair-preserved
-loop-pair-preserved g c =
+pub loop-output-preserved : goal.loop-output-preserved
+loop-output-preserved g c =
     let m = g.F.Fabric.meaning in
-    let inv = c.loop-pair.invariant in
-    let turn = one_more c.args.plan.now c.loop-pair.pair-index c.loop-pair-test.true (m c.loop-pair.fabric) (m c.route_pair.new.fabric)
-    (g.met.F.Fabric.sound c.loop-pair.fabric) c.route_pair.result c.route_pair.ensures.answer c.route_pair.ensures.after in
-    let count = counting (is_ok c.route_pair.result) _ _ _ _ _ inv.0 inv.1 turn.0 in
-    let done : c.if-is_ok.done ≡ c.loop-pair.done + cond (is_ok c.route_pair.result) 1 0 =
+    let inv = c.loop-output.invariant in
+    let turn = one_more c.args.plan.now c.loop-output.output-index c.loop-output-test.true (m c.loop-output.fabric) (m c.route.new.self)
+    (g.met.F.Fabric.sound c.loop-output.fabric) c.route.result c.route.ensures.answer c.route.ensures.after in
+    let count = counting (is_ok c.route.result) _ _ _ _ _ inv.0 inv.1 turn.0 in
+    let done : c.if-is_ok.done ≡ c.loop-output.done + cond (is_ok c.route.result) 1 0 =
     elim c.if-is_ok.branch [
       | then-is_ok w ↦ rw (sym c.is_ok.ensures.value ∙ w.if-is_ok.true) w.done-is
       | else-is_ok w ↦ rw (sym c.is_ok.ensures.value ∙ w.if-is_ok.false) (omega (arith, w.done-is))
@@ -28,9 +28,9 @@ loop-pair-preserved g c =
 pub returns : goal.returns
 returns g c =
     let m = g.F.Fabric.meaning in
-    let none = drop_all c.loop-pair.pair-index c.args.plan.now c.loop-pair-test.false in
-    let counted = rw none at c.loop-pair.invariant.1 in
-    let changed = rw none at c.loop-pair.invariant.2 in
+    let none = drop_all c.loop-output.output-index c.args.plan.now c.loop-output-test.false in
+    let counted = rw none at c.loop-output.invariant.1 in
+    let changed = rw none at c.loop-output.invariant.2 in
     record {
       answer = omega (arith, counted);
       after = changed;

@@ -1,9 +1,9 @@
 -- One more bit of the marks is one pair less.
-use Rattle.std.proofs.Common.{replicate, arith}
+use Rattle.std.proofs.Common.{arith}
 use Rattle.fabric.proofs.BankLaws.{bank_without}
 use Rattle.fabric.proofs.bank.BankSetup.mark.Goals as goal
 
 pub returns : goal.returns
 returns c =
-    let s = c.args.self.now in
-    rw c.relay.ensures.answer (bank_without s.inputs s.outputs (replicate 16 1) s.bad (omega (arith, s.sized.3)) c.args.output c.args.input c.requires)
+    let s = c.args.self.now.bank in
+    rw c.relay.ensures.answer (bank_without s.size.inputs s.size.outputs s.rows (omega (arith, s.size.few_outputs)) c.args.output c.args.input c.requires)

@@ -1,22 +1,9 @@
--- A row has one closed relay, that of the feeding input; outside the count there is none.
+-- A row has one closed relay, that of the feeding input.
 use Rattle.std.proofs.Common.{sym}
-use Rattle.fabric.proofs.BankLaws.{row_is, no_row, row_closed, none_closed}
+use Rattle.fabric.proofs.BankLaws.{row_closed}
 use Rattle.fabric.proofs.bank.RelayBank.relays.Goals as goal
 
-pub returns-then-not-is_within : goal.returns-then-not-is_within
-returns-then-not-is_within c =
+pub returns-clause-law : goal.returns-clause-law
+returns-clause-law c =
     let s = c.args.self.now in
-    let outside = sym c.if-not-is_within.ensures in
-    record {
-      answer = no_row s.inputs s.outputs s.rows s.bad c.args.output outside;
-      law = none_closed s.inputs s.outputs s.rows s.bad c.args.output outside;
-    }
-
-pub returns : goal.returns
-returns c =
-    let s = c.args.self.now in
-    let inside = sym c.if-not-is_within.ensures in
-    record {
-      answer = row_is s.inputs s.outputs s.rows s.bad c.args.output inside s.one;
-      law = row_closed s.inputs s.outputs s.rows s.bad c.args.output inside s.one;
-    }
+    row_closed s.size.inputs s.size.outputs s.rows c.args.output (sym c.if-not-has_output.ensures) s.one

@@ -4,14 +4,11 @@ use Rattle.std.proofs.lemmas.Nat.{one_shl}
 use Rattle.fabric.specs.Banks.{closed, OneClosed}
 use Rattle.fabric.proofs.BankLaws.{closed_pow, only_closed}
 use Rattle.fabric.proofs.Means.{within_le}
-use Rattle.fabric.proofs.bank.setup.relay.Goals as goal
+use Rattle.fabric.proofs.bank.row.relay.Goals as goal
 
-pub returns : goal.returns
-returns c =
+pub returns-clause-law : goal.returns-clause-law
+returns-clause-law c =
     let j = c.args.input in
     let few = within_le j 16 c.requires in
     let bit = one_shl (j - 1) 16 (omega arith) in
-    record {
-      answer = bit;
-      law = (ap closed bit ∙ closed_pow j c.requires, subst (λ (row : ℕ). OneClosed j row) (sym bit) (only_closed j c.requires));
-    }
+    (ap closed bit ∙ closed_pow j c.requires, subst (λ (row : ℕ). OneClosed j row) (sym bit) (only_closed j c.requires))
