@@ -1,6 +1,5 @@
 pub mod Keeping
 pub mod Fronts
 pub mod Cells
-pub mod CheckBytes
 pub mod Digits
 pub mod Letters

@@ -7,8 +7,9 @@
 --   hex_value        the value of a hexadecimal digit in capitals
 --   hex_pair         the number of two such values
 --   read_hex         two hexadecimal digits in capitals
---   read_colon       a colon: the bytes behind it
---   then, past       reads on behind a field; behind a colon
+--   read_mark m xs   the byte m at the front of xs: the bytes behind it
+--   read_colon       a colon
+--   then, past       reads on behind a field; behind a mark
 --   ended v xs       v, where no byte is left
 --   most_text        how many bytes a name or a password has at the most
 --   short_text       all of some bytes, where they are not more
@@ -55,9 +56,12 @@ read_hex [] = None
 read_hex (a ∷ []) = None
 read_hex (a ∷ b ∷ rest) = hex_pair (hex_value a) (hex_value b) rest
 
+abbrev pub read_mark : ℕ → List ℕ → Option (List ℕ)
+read_mark m [] = None
+read_mark m (a ∷ rest) = cond (a == m) (Some rest) None
+
 abbrev pub read_colon : List ℕ → Option (List ℕ)
-read_colon [] = None
-read_colon (a ∷ rest) = cond (a == 58) (Some rest) None
+read_colon = read_mark 58
 
 abbrev pub then : {V W : Type 0} → Field V → (V → List ℕ → Option W) → Option W
 then None f = None

@@ -1,4 +1,5 @@
 pub mod Kept
+pub mod Lists
 pub mod Fields
 pub mod Letters
 pub mod Frames

@@ -1,7 +1,7 @@
 // The fields of packets and replies. A reader takes its field from the front of a slice and hands back the rest;
 // a writer gives the bytes of a number, if it fits.
 ghost use Rattle.std.specs.Prelude.{◌≡◌, ◌<◌};
-ghost use Rattle.wire.specs.Fields.{field, behind, read_digit, read_number, read_hex, read_colon, hex_value, one_digit, three_digits, hex_digit, two_hex, if_below, DigitReadsBack, NumberReadsBack, HexReadsBack};
+ghost use Rattle.wire.specs.Fields.{field, behind, read_digit, read_number, read_hex, read_mark, read_colon, hex_value, one_digit, three_digits, hex_digit, two_hex, if_below, DigitReadsBack, NumberReadsBack, HexReadsBack};
 
 // One decimal digit.
 pub fn read_digit(s: &[u8]) -> Option<(u8, &[u8])>
@@ -26,7 +26,7 @@ pub fn read_number(s: &[u8]) -> Option<(u16, &[u8])>
     }
 }
 
-// The value of a hexadecimal digit in capitals.
+// The value of a hexadecimal digit in capitals; no `to_digit(16)`, which takes small letters, too.
 pub fn hex_value(b: u8) -> Option<u8>
     ensures { result ≡ hex_value b }
 {
@@ -51,14 +51,18 @@ pub fn read_hex(s: &[u8]) -> Option<(u8, &[u8])>
     }
 }
 
-// A colon: only the rest is handed back.
+// The byte `mark`: only the rest is handed back.
+pub fn read_mark(s: &[u8], mark: u8) -> Option<&[u8]>
+    ensures { behind result ≡ read_mark mark s.now }
+{
+    s.strip_prefix(&[mark])
+}
+
+// A colon.
 pub fn read_colon(s: &[u8]) -> Option<&[u8]>
     ensures { behind result ≡ read_colon s.now }
 {
-    match s {
-        [b':', rest @ ..] => Some(rest),
-        _ => None,
-    }
+    read_mark(s, b':')
 }
 
 // A number below 10.
@@ -69,7 +73,7 @@ pub fn one_digit(n: u8) -> Option<[u8; 1]>
     if n < 10 { Some([b'0' + n]) } else { None }
 }
 
-// A number below 1000.
+// A number below 1000. Not one function with `one_digit` for every number of digits: the digits of N places need a loop.
 pub fn three_digits(n: u16) -> Option<[u8; 3]>
     ensures answer { result ≡ if_below 1000 n (three_digits n) }
     ensures law { NumberReadsBack n }

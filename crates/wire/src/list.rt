@@ -1,10 +1,23 @@
 // Lists that keep the first elements put into them, in order, and mark an overrun when one more comes.
 // The places stand in the memory of whoever holds the list, for every type of element and every number of places.
-ghost use Rattle.std.specs.Prelude.{◌≡◌, length};
+ghost use Rattle.std.specs.Prelude.{◌≡◌, ◌≤◌, length};
 ghost use Rattle.wire.specs.Kept.{put, front, firsts, placed, counted, placed_all, counted_all, KeepsTheFirst};
+
+mod methods;
+
+// The first N elements, in order, and whether one more came.
+// A ghost field, no `impl Model`: a model of a `Copy` type has to give back all fields (`inverse`), the unused places among them.
+#[derive(Copy)]
+pub struct KeptList<T, const N: usize> {
+    cells: [T; N],
+    used: usize,
+    overrun: bool,
+    ghost within: { used ≤ N },
+}
 
 // Puts `x` behind the first `used` places, if there is room; else marks an overrun.
 // Returns how many places are used then, and the mark.
+// A function over a slice, and no method of a list: the project fixes this form.
 pub fn keep<T: Drop>(places: &mut [T], used: usize, overrun: bool, x: T) -> (usize, bool)
     ensures answer { result ≡ counted places.old used overrun }
     ensures after { places.new ≡ placed places.old used x }

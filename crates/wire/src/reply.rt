@@ -1,5 +1,8 @@
 // Replies: a draft takes body bytes, sealing ends it, and only a sealed reply can be copied out.
-ghost use Rattle.std.specs.Prelude.{◌≡◌, ◌≤◌, length};
+ghost use Rattle.std.specs.Prelude.{ℕ, ◌≤◌, List, take, drop, slice_index};
+ghost use Rattle.wire.specs.Frames.{Frame};
+
+use std::marker::Model;
 
 mod methods;
 
@@ -9,16 +12,22 @@ pub use methods::{check_byte, whole_reply_sums_to_zero};
 #[derive(Clone, Copy)]
 pub enum Header {
     // The command was accepted.
-    Ack,
+    Ack = 0x06,
     // The command was refused.
-    Nak,
+    Nak = 0x15,
 }
 
-// Why a draft took no byte.
+// A byte that is no header.
+#[derive(Clone, Copy)]
+pub struct UnknownHeader {
+    pub byte: u8,
+}
+
+// Why a draft took no byte, with the number by which the refusal is known.
 #[derive(Clone, Copy)]
 pub enum DraftFault {
     // The body would have a sixtieth byte.
-    BodyFull,
+    BodyFull = 9,
 }
 
 // Why a reply was not copied.
@@ -29,12 +38,20 @@ pub enum CopyFault {
 }
 
 // A reply that is being made: the header, the address and the first `used` bytes of the body.
+// No `KeptList` of bytes: a draft takes all of some bytes or none of them, and so has no mark to keep.
 #[derive(Drop)]
 pub struct Draft {
     cells: [u8; 64],
     used: usize,
-    ghost whole: { length cells ≡ 64 },
-    ghost within: { used ≤ 59 },
+}
+
+// Clauses see header, address and body.
+impl Model for Draft {
+    ghost Value = { Frame };
+
+    ghost view = { λ d. record { header = slice_index d.cells 0; high = slice_index d.cells 1; low = slice_index d.cells 2; body = take d.used (drop 3 d.cells) } };
+
+    ghost invariant = { λ d. d.used ≤ 59 };
 }
 
 // A reply that is ready to be sent.
@@ -42,6 +59,13 @@ pub struct Draft {
 pub struct SealedReply {
     cells: [u8; 64],
     used: usize,
-    ghost whole: { length cells ≡ 64 },
-    ghost within: { used ≤ 64 },
+}
+
+// Clauses see the bytes of the reply.
+impl Model for SealedReply {
+    ghost Value = { List ℕ };
+
+    ghost view = { λ r. take r.used r.cells };
+
+    ghost invariant = { λ r. r.used ≤ 64 };
 }

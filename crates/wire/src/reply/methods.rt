@@ -1,24 +1,35 @@
 // The calls of headers, drafts and sealed replies.
 ghost use Rattle.std.specs.Prelude.{◌≡◌, ◌≤◌, [], ◌∷◌, length};
 ghost use Rattle.wire.specs.Frames.{check_byte, added, on_line, copied, WholeReplySumsToZero};
-ghost use Rattle.wire.specs.Drafts.{header_byte, fault_number, frame, sealed, add_answer, copy_answer};
+ghost use Rattle.wire.specs.Drafts.{header_byte, header_of_byte, fault_number, add_answer, copy_answer};
 
-use super::{CopyFault, Draft, DraftFault, Header, SealedReply};
-
-const ETX: u8 = 0x03;
+use super::{CopyFault, Draft, DraftFault, Header, SealedReply, UnknownHeader};
+use crate::address::AddressBytes;
+use crate::control::ETX;
 
 // Header and address.
 const FRONT: usize = 3;
 
 const MOST_BODY: usize = 59;
 
-impl Header {
-    pub fn byte(self) -> u8
-        ensures { result ≡ header_byte self }
-    {
-        match self {
-            Header::Ack => 0x06,
-            Header::Nak => 0x15,
+impl From<Header> for u8 {
+    ghost from_gives = { λ h b. b ≡ header_byte h };
+
+    fn from(header: Header) -> u8 {
+        header as u8
+    }
+}
+
+impl TryFrom<u8> for Header {
+    type Error = UnknownHeader;
+
+    ghost try_from_gives = { λ b r. r ≡ header_of_byte b };
+
+    fn try_from(byte: u8) -> Result<Header, UnknownHeader> {
+        match byte {
+            0x06 => Ok(Header::Ack),
+            0x15 => Ok(Header::Nak),
+            _ => Err(UnknownHeader { byte }),
         }
     }
 }
@@ -28,13 +39,11 @@ impl DraftFault {
     pub fn number(self) -> u8
         ensures { result ≡ fault_number self }
     {
-        match self {
-            DraftFault::BodyFull => 9,
-        }
+        self as u8
     }
 }
 
-// The exclusive or of every byte.
+// The exclusive or of every byte. A `for` loop and no `fold`: the project fixes this form at sealing.
 pub fn check_byte(bytes: &[u8]) -> u8
     ensures { result ≡ check_byte bytes.now }
 {
@@ -51,29 +60,29 @@ pub fn whole_reply_sums_to_zero()
 {}
 
 impl Draft {
-    // A draft with an empty body; `high` and `low` are the address bytes.
-    pub fn new(header: Header, high: u8, low: u8) -> Draft
-        ensures { frame result ≡ record { header = header_byte header; high = high; low = low; body = [] } }
+    // A draft with an empty body.
+    pub fn new(header: Header, address: AddressBytes) -> Draft
+        ensures { result ≡ record { header = header_byte header; high = address.high; low = address.low; body = [] } }
     {
         let mut cells = [0; 64];
-        cells[0] = header.byte();
-        cells[1] = high;
-        cells[2] = low;
+        cells[0] = header.into();
+        cells[1] = address.high;
+        cells[2] = address.low;
         Draft { cells, used: 0 }
     }
 
     // Adds one byte to the body.
     pub fn add(&mut self, b: u8) -> Result<(), DraftFault>
-        ensures answer { result ≡ add_answer (frame self.old) (b ∷ []) }
-        ensures after { frame self.new ≡ added (frame self.old) (b ∷ []) }
+        ensures answer { result ≡ add_answer self.old (b ∷ []) }
+        ensures after { self.new ≡ added self.old (b ∷ []) }
     {
         self.add_all(&[b])
     }
 
     // Adds all of `bytes` to the body, or none of them.
     pub fn add_all(&mut self, bytes: &[u8]) -> Result<(), DraftFault>
-        ensures answer { result ≡ add_answer (frame self.old) bytes.now }
-        ensures after { frame self.new ≡ added (frame self.old) bytes.now }
+        ensures answer { result ≡ add_answer self.old bytes.now }
+        ensures after { self.new ≡ added self.old bytes.now }
     {
         let used = self.used;
         let n = bytes.len();
@@ -88,12 +97,12 @@ impl Draft {
 
     // Ends the draft with ETX and the check byte.
     pub fn seal(self) -> SealedReply
-        ensures { sealed result ≡ on_line (frame self) }
+        ensures { result ≡ on_line self }
     {
         let Draft { mut cells, used } = self;
         let end = FRONT + used;
         cells[end] = ETX;
-        let check = check_byte(&cells[0..end + 1]);
+        let check = check_byte(&cells[..=end]);
         cells[end + 1] = check;
         SealedReply {
             cells,
@@ -104,23 +113,23 @@ impl Draft {
 
 impl SealedReply {
     pub fn as_bytes(&self) -> &[u8]
-        ensures value { result.now ≡ sealed self.now }
+        ensures value { result.now ≡ self.now }
         ensures few { length result.now ≤ 64 }
     {
-        &self.cells[0..self.used]
+        &self.cells[..self.used]
     }
 
     // Copies the reply to the front of `out`, if it fits, and returns its length.
     pub fn copy_to(&self, out: &mut [u8]) -> Result<usize, CopyFault>
-        ensures answer { result ≡ copy_answer (sealed self.now) out.old }
-        ensures after { out.new ≡ copied (sealed self.now) out.old }
+        ensures answer { result ≡ copy_answer self.now out.old }
+        ensures after { out.new ≡ copied self.now out.old }
     {
         let bytes = self.as_bytes();
         let n = bytes.len();
         if out.len() < n {
             return Err(CopyFault::ShortBuffer);
         }
-        out[0..n].copy_from_slice(bytes);
+        out[..n].copy_from_slice(bytes);
         Ok(n)
     }
 }
