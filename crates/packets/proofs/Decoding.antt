@@ -35,12 +35,6 @@ decodes_what_is_sent (set_password w) h = ap (with_data set_password) (short_tex
 decodes_what_is_sent (set_mask g v o) h = ap (with_data (λ d. set_mask d.0 d.1 d.2)) (mask_data_back g v o h.0 h.1 h.2)
 decodes_what_is_sent (log_in n w) h = ap (with_data (λ d. log_in d.0 d.1)) (login_data_back n w h.0 h.1)
 
-err_ok : (f : PacketFault) (c : Command) → ◌≡◌ {A = Result Command PacketFault} (Err f) (Ok c) → ⊥
-err_ok f c e = let z : ◌≡◌ {A = ℕ} 0 1 = cc in omega arith
-
-same_ok : (c d : Command) → ◌≡◌ {A = Result Command PacketFault} (Ok c) (Ok d) → c ≡ d
-same_ok c d e = cc
-
 -- the body b is that of the command c
 abbrev Sent : List ℕ → Command → Type 0
 Sent b c = Sendable c × (b ≡ body_bytes c)
@@ -50,8 +44,8 @@ of_data : {D : Type 0} (ls : List ℕ) (f : D → Command) (read : List ℕ → 
 of_data {D} ls f read sent c ys = by_data (read ys) refl
   where
     by_data : (o : Option D) → read ys ≡ o → with_data f o ≡ Ok c → Sent (ls ++ ys) c
-    by_data None r e = absurd (err_ok _ c e)
-    by_data (Some d) r e = subst (Sent (ls ++ ys)) (same_ok (f d) c e) (sent ys d r)
+    by_data None r e = cc
+    by_data (Some d) r e = let same : f d ≡ c = cc in subst (Sent (ls ++ ys)) same (sent ys d r)
 
 -- a row without data
 of_none : (ls : List ℕ) (k : Command) → Sendable k → ls ≡ body_bytes k → (c : Command) (ys : List ℕ) → bare k ys ≡ Ok c → Sent (ls ++ ys) c
@@ -101,7 +95,7 @@ each_row c =
     also tt
 
 pub only_sent_bodies_are_decoded : OnlySentBodiesAreDecoded
-only_sent_bodies_are_decoded b c e = from_row (λ xs. Sent xs c) (Err Unlisted) (Ok c) (err_ok Unlisted c) rows (each_row c) b e
+only_sent_bodies_are_decoded b c e = from_row (λ xs. Sent xs c) (Err Unlisted) (Ok c) (λ e. cc) rows (each_row c) b e
 
 -- what is ensured of an outcome that is the one of the table
 pub with_laws : (r : Result Command PacketFault) (b : List ℕ) → r ≡ decode b → record { answer : r ≡ decode b; longest : LongestLettersDecide b; sent : DecodesWhatIsSent; only : OnlySentBodiesAreDecoded }

@@ -2,7 +2,7 @@
 -- are ever listed.
 use Rattle.std.proofs.Common.{◌≡◌, ℕ, Bool, true, false, cond, eqb, ltb, List, [], ◌∷◌, ◌++◌, length, Some, None, fold, Option, refl, ap, ◌∙◌}
 use Rattle.std.specs.List.{AllByRecursion}
-use Rattle.std.proofs.ByRecursion.{All-push}
+use Rattle.std.proofs.lemmas.List.Elements.{All-push, All-from_recursion, recursion_from_All}
 use Rattle.std.proofs.lemmas.List.{append_assoc}
 use Rattle.std.proofs.lemmas.Bool.{ne_eqb, eqb-false, cond_both}
 use Rattle.wire.specs.Kept.{Kept, put, put_all, empty, firsts}
@@ -49,7 +49,7 @@ PacketIfPlain None = Unit {0}
 PacketIfPlain (Some p) = AllByRecursion Plain p.listed.items
 
 put_plain : (k : Kept ℕ) (b : ℕ) → Plain b → AllByRecursion Plain k.items → AllByRecursion Plain (put most_listed k b).items
-put_plain k b p a = cond_both (ltb (length k.items) most_listed) _ _ (λ (l : Kept ℕ). AllByRecursion Plain l.items) (λ e. All-push Plain k.items b a p) (λ e. a)
+put_plain k b p a = cond_both (ltb (length k.items) most_listed) _ _ (λ (l : Kept ℕ). AllByRecursion Plain l.items) (λ e. recursion_from_All Plain _ (All-push Plain k.items b (All-from_recursion Plain k.items a) p)) (λ e. a)
 
 hear_plain : (r : Receiver) (b : ℕ) → PlainSoFar r → PlainSoFar (hear r b).next
 hear_plain idle b a = elim (eqb b stx) as (λ w. PlainSoFar (cond w (collecting empty stx) idle)) [ true ↦ tt | false ↦ tt ]

@@ -1,5 +1,5 @@
 pub mod Framing
-pub mod Bodies
+pub mod Colons
 pub mod Tables
 pub mod Readers
 pub mod Decoding

@@ -2,12 +2,13 @@
 use Rattle.std.proofs.Common.{◌≡◌, ℕ, suc, ◌+◌, ◌-◌, ◌*◌, ◌/◌, ◌%◌, ◌<◌, ◌≤◌, Bool, true, false, cond, not, ◌&&◌, eqb, ltb, leb, List, [], ◌∷◌, ◌++◌, length, take, drop, Some, None, Option, sym, refl, ap, ◌∙◌, subst, add-one, one-add, arith}
 use Rattle.std.specs.List.{AllByRecursion}
 use Rattle.std.proofs.lemmas.List.{append_assoc, length-append, length_push, take_at, drop_at, nil_from_length}
+use Rattle.std.proofs.lemmas.Option.{cond_some}
 use Rattle.std.proofs.lemmas.Bool.{and_parts, and_from, eqb-true, eqb-false, ne_eqb, leb-true, le-leb, ltb-true, cond-true}
 use Rattle.wire.specs.Fields.{Field, is_digit, read_digit, read_number, read_colon, then, past, ended, most_text, short_text, one_digit, three_digits}
 use Rattle.wire.proofs.Digits.{digit_back, number_back}
 use Rattle.packets.specs.Data.{one_number, two_numbers, mask_data, colon, before_colon, at_colon, name_and_text, login_data}
 use Rattle.packets.specs.Sending.{Name, Password}
-use Rattle.packets.proofs.Bodies.{colon_at}
+use Rattle.packets.proofs.Colons.{colon_at}
 
 -- ---- what was written is read
 
@@ -44,35 +45,24 @@ short_text_back w h = cond-true _ _ _ (le-leb (length w) most_text h)
 
 -- ---- what is read was written
 
-none_some : {X : Type 0} (x : X) → ◌≡◌ {A = Option X} None (Some x) → ⊥
-none_some x e = let z : ◌≡◌ {A = ℕ} 0 1 = cc in omega arith
-
-same_some : {X : Type 0} (x y : X) → Some x ≡ Some y → x ≡ y
-same_some x y e = cc
-
--- a test that was passed, with its value
-passed : {X : Type 0} (t : Bool) (x y : X) → cond t (Some x) None ≡ Some y → (t ≡ true) × (x ≡ y)
-passed true x y e = (refl, same_some x y e)
-passed false x y e = absurd (none_some y e)
-
 then_read : {V W : Type 0} (f : Field V) (g : V → List ℕ → Option W) (w : W) → then f g ≡ Some w → (v : V) × (rest : List ℕ) × (f ≡ Some (v, rest)) × (g v rest ≡ Some w)
-then_read None g w e = absurd (none_some w e)
+then_read None g w e = cc
 then_read (Some p) g w e = (p.0, p.1, refl, e)
 
 past_read : {W : Type 0} (o : Option (List ℕ)) (g : List ℕ → Option W) (w : W) → past o g ≡ Some w → (rest : List ℕ) × (o ≡ Some rest) × (g rest ≡ Some w)
-past_read None g w e = absurd (none_some w e)
+past_read None g w e = cc
 past_read (Some rest) g w e = (rest, refl, e)
 
 pub ended_read : {V : Type 0} (v w : V) (xs : List ℕ) → ended v xs ≡ Some w → (v ≡ w) × (xs ≡ [])
-ended_read v w xs e = let p = passed (eqb (length xs) 0) v w e in (p.1, nil_from_length xs (eqb-true (length xs) 0 p.0))
+ended_read v w xs e = let p = cond_some (eqb (length xs) 0) v w e in (p.1, nil_from_length xs (eqb-true (length xs) 0 p.0))
 
 digit_bounds : (a : ℕ) → is_digit a ≡ true → (48 ≤ a) × (a ≤ 57)
 digit_bounds a t = let p = and_parts (leb 48 a) (leb a 57) t in (leb-true 48 a p.0, leb-true a 57 p.1)
 
 digit_read : (xs : List ℕ) (n : ℕ) (rest : List ℕ) → read_digit xs ≡ Some (n, rest) → (n < 10) × (xs ≡ one_digit n ++ rest)
-digit_read [] n rest e = absurd (none_some _ e)
+digit_read [] n rest e = cc
 digit_read (a ∷ xs) n rest e =
-    let p = passed (is_digit a) (a - 48, xs) (n, rest) e in
+    let p = cond_some (is_digit a) (a - 48, xs) (n, rest) e in
     let d = digit_bounds a p.0 in
     let v : a - 48 ≡ n = ap (λ (q : ℕ × List ℕ). q.0) p.1 in
     let r : xs ≡ rest = ap (λ (q : ℕ × List ℕ). q.1) p.1 in
@@ -80,11 +70,11 @@ digit_read (a ∷ xs) n rest e =
     (omega arith, cc)
 
 number_read : (xs : List ℕ) (n : ℕ) (rest : List ℕ) → read_number xs ≡ Some (n, rest) → (n < 1000) × (xs ≡ three_digits n ++ rest)
-number_read [] n rest e = absurd (none_some _ e)
-number_read (a ∷ []) n rest e = absurd (none_some _ e)
-number_read (a ∷ b ∷ []) n rest e = absurd (none_some _ e)
+number_read [] n rest e = cc
+number_read (a ∷ []) n rest e = cc
+number_read (a ∷ b ∷ []) n rest e = cc
 number_read (a ∷ b ∷ c ∷ xs) n rest e =
-    let p = passed (is_digit a && (is_digit b && is_digit c)) ((a - 48) * 100 + (b - 48) * 10 + (c - 48), xs) (n, rest) e in
+    let p = cond_some (is_digit a && (is_digit b && is_digit c)) ((a - 48) * 100 + (b - 48) * 10 + (c - 48), xs) (n, rest) e in
     let q = and_parts (is_digit a) (is_digit b && is_digit c) p.0 in
     let low = and_parts (is_digit b) (is_digit c) q.1 in
     let da = digit_bounds a q.0 in
@@ -98,9 +88,9 @@ number_read (a ∷ b ∷ c ∷ xs) n rest e =
     (omega arith, λ i. ea i ∷ eb i ∷ ec i ∷ r i)
 
 colon_read : (xs rest : List ℕ) → read_colon xs ≡ Some rest → xs ≡ colon ∷ rest
-colon_read [] rest e = absurd (none_some _ e)
+colon_read [] rest e = cc
 colon_read (a ∷ xs) rest e =
-    let p = passed (eqb a colon) xs rest e in
+    let p = cond_some (eqb a colon) xs rest e in
     let c = eqb-true a colon p.0 in
     λ i. c i ∷ p.1 i
 
@@ -160,16 +150,16 @@ cut (x ∷ xs) h = by_byte (eqb x colon) refl h (cut xs)
 at_colon_read : (xs : List ℕ) (p : List ℕ × List ℕ) → at_colon xs ≡ Some p → AllByRecursion (λ b. b ≡ colon → ⊥) p.0 × (xs ≡ p.0 ++ colon ∷ p.1)
 at_colon_read xs p e =
     let k = before_colon xs in
-    let t = passed (ltb k (length xs)) (take k xs, drop (k + 1) xs) p e in
+    let t = cond_some (ltb k (length xs)) (take k xs, drop (k + 1) xs) p e in
     let n : take k xs ≡ p.0 = ap (λ (q : List ℕ × List ℕ). q.0) t.1 in
     let w : drop (suc k) xs ≡ p.1 = ap (λ (j : ℕ). drop j xs) (sym (add-one k)) ∙ ap (λ (q : List ℕ × List ℕ). q.1) t.1 in
     let c = cut xs (ltb-true k (length xs) t.0) in
     (subst (AllByRecursion (λ b. b ≡ colon → ⊥)) n c.0, c.1 ∙ λ i. n i ++ colon ∷ w i)
 
 name_and_text_read : (o : Option (List ℕ × List ℕ)) (d : List ℕ × List ℕ) → name_and_text o ≡ Some d → (o ≡ Some d) × (1 ≤ length d.0) × (length d.0 ≤ most_text) × (length d.1 ≤ most_text)
-name_and_text_read None d e = absurd (none_some _ e)
+name_and_text_read None d e = cc
 name_and_text_read (Some p) d e =
-    let t = passed (leb 1 (length p.0) && (leb (length p.0) most_text && leb (length p.1) most_text)) (p.0, p.1) d e in
+    let t = cond_some (leb 1 (length p.0) && (leb (length p.0) most_text && leb (length p.1) most_text)) (p.0, p.1) d e in
     let q = and_parts (leb 1 (length p.0)) (leb (length p.0) most_text && leb (length p.1) most_text) t.0 in
     let u = and_parts (leb (length p.0) most_text) (leb (length p.1) most_text) q.1 in
     let n = ap (λ (r : List ℕ × List ℕ). length r.0) t.1 in
@@ -188,7 +178,7 @@ login_data_read xs d e =
 
 pub short_text_read : (xs w : List ℕ) → short_text xs ≡ Some w → Password w × (xs ≡ w)
 short_text_read xs w e =
-    let p = passed (leb (length xs) most_text) xs w e in
+    let p = cond_some (leb (length xs) most_text) xs w e in
     let l = leb-true (length xs) most_text p.0 in
     let n = ap length p.1 in
     (omega arith, p.1)

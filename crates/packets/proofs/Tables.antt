@@ -1,8 +1,9 @@
 -- A table that has the longer letters before the shorter, and none twice, says what its row of the longest fitting letters says; and
 -- what a table says, a row says whose letters fit.
 use Rattle.std.proofs.Common.{◌≡◌, ℕ, zero, suc, ◌<◌, ◌≤◌, Bool, true, false, cond, not, ◌&&◌, eqb, leb, List, [], ◌∷◌, ◌++◌, length, take, drop, sym, refl, ap, ◌∙◌, subst, arith}
-use Rattle.std.specs.List.{HoldsAt, ContainsAt as Has, AllByRecursion}
-use Rattle.std.proofs.ByRecursion.{all-has}
+use Rattle.std.specs.List.{HoldsAt, ContainsAt as Has, AllByRecursion, list_all}
+use Rattle.std.proofs.lemmas.List.Elements.{All-contains, Contains-from_at}
+use Rattle.std.proofs.lemmas.List.Sums.{AllPass-from_list_all}
 use Rattle.std.proofs.lemmas.Slice.Eq.{bytes_eq-Decides}
 use Rattle.std.proofs.lemmas.List.{take_at}
 use Rattle.std.proofs.lemmas.Bool.{false≢true, both_ways, and_parts, not-true, eqb-true, leb-true, cond-true, cond-false}
@@ -29,17 +30,9 @@ module _ {V : Type 0} where
   abbrev goes_before : Row V → Row V → Bool
   goes_before r s = leb (length s.letters) (length r.letters) && not (same_bytes r.letters s.letters)
 
-  abbrev before_all : Row V → List (Row V) → Bool
-  before_all r [] = true
-  before_all r (s ∷ rs) = goes_before r s && before_all r rs
-
   abbrev pub longest_first : List (Row V) → Bool
   longest_first [] = true
-  longest_first (r ∷ rs) = before_all r rs && longest_first rs
-
-  each_behind : (r : Row V) (rs : List (Row V)) → before_all r rs ≡ true → AllByRecursion (λ s. goes_before r s ≡ true) rs
-  each_behind r [] h = tt
-  each_behind r (s ∷ rs) h = let p = and_parts (goes_before r s) (before_all r rs) h in (p.0, each_behind r rs p.1)
+  longest_first (r ∷ rs) = list_all (goes_before r) rs && longest_first rs
 
   -- two rows of which one goes before the other do not both fit, if the later has no fewer letters
   not_both : (f r : Row V) (xs : List ℕ) → goes_before f r ≡ true → begins f.letters xs ≡ true → begins r.letters xs ≡ true → length f.letters ≤ length r.letters → ⊥
@@ -54,11 +47,11 @@ module _ {V : Type 0} where
   decides none xs (f ∷ fs) o (suc k) r lt at b m =
       by_first (begins f.letters xs) refl (decides none xs fs ordered.1 k r (omega arith) at b (λ s h. m s (suc h.0, omega (arith, h.1), h.2)))
     where
-      ordered : (before_all f fs ≡ true) × (longest_first fs ≡ true)
-      ordered = and_parts (before_all f fs) (longest_first fs) o
+      ordered : (list_all (goes_before f) fs ≡ true) × (longest_first fs ≡ true)
+      ordered = and_parts (list_all (goes_before f) fs) (longest_first fs) o
 
       by_first : (w : Bool) → begins f.letters xs ≡ w → looked_up none fs xs ≡ r.says (drop (length r.letters) xs) → looked_up none (f ∷ fs) xs ≡ r.says (drop (length r.letters) xs)
-      by_first true e rest = absurd (not_both f r xs (all-has (λ s. goes_before f s ≡ true) fs r (each_behind f fs ordered.0) (k, omega arith, at)) e b (m f (0, omega arith, λ d. refl) e))
+      by_first true e rest = absurd (not_both f r xs (All-contains (λ s. goes_before f s ≡ true) fs r (AllPass-from_list_all (goes_before f) fs ordered.0) (Contains-from_at fs r (k, omega arith, at))) e b (m f (0, omega arith, λ d. refl) e))
       by_first false e rest = cond-false _ _ _ e ∙ rest
 
   pub longest_decides : (none : V) (xs : List ℕ) (rs : List (Row V)) → longest_first rs ≡ true → (r : Row V) → Has rs r → begins r.letters xs ≡ true → ((s : Row V) → Has rs s → begins s.letters xs ≡ true → length s.letters ≤ length r.letters) → looked_up none rs xs ≡ r.says (drop (length r.letters) xs)

@@ -5,38 +5,29 @@ ghost use Rattle.packets.specs.Receiving.{receiver, packet_if};
 ghost use Rattle.packets.specs.Runs.{PacketsAreFramed, CheckByteComesFirst, NoPacketWithoutSTX, ListedBytesArePlain};
 
 use crate::packet::{Packet, PacketBytes};
+use wire::control::{ETX, STX};
 
-const STX: u8 = 0x02;
-
-const ETX: u8 = 0x03;
-
+// The list holds the bytes so far, and the check is the exclusive or of all bytes since STX.
 #[derive(Clone, Copy)]
 enum Phase {
     // Between packets.
     Idle,
     // Between STX and ETX.
-    Collecting,
+    Collecting { list: PacketBytes, check: u8 },
     // Behind ETX.
-    Awaiting,
+    Awaiting { list: PacketBytes, check: u8 },
 }
 
-// The bytes listed so far, and the exclusive or of all bytes since STX.
 #[derive(Clone, Copy)]
 pub struct Receiver {
     phase: Phase,
-    list: PacketBytes,
-    check: u8,
 }
 
 impl Receiver {
     pub fn new() -> Receiver
         ensures { receiver result ≡ idle }
     {
-        Receiver {
-            phase: Phase::Idle,
-            list: PacketBytes::new(),
-            check: 0,
-        }
+        Receiver { phase: Phase::Idle }
     }
 
     // One byte from the line, and the packet that it ends, if it ends one.
@@ -44,30 +35,34 @@ impl Receiver {
         ensures after { receiver self.new ≡ (hear (receiver self.old) b).next }
         ensures answer { packet_if result ≡ (hear (receiver self.old) b).packet }
     {
-        match (self.phase, b) {
-            (Phase::Idle, STX) | (Phase::Collecting, STX) => {
-                self.list.clear();
-                self.check = STX;
-                self.phase = Phase::Collecting;
+        match (&mut self.phase, b) {
+            (Phase::Idle | Phase::Collecting { .. }, STX) => {
+                self.phase = Phase::Collecting {
+                    list: PacketBytes::new(),
+                    check: STX,
+                };
                 None
             }
             (Phase::Idle, _) => None,
-            (Phase::Collecting, ETX) => {
-                self.check ^= ETX;
-                self.phase = Phase::Awaiting;
+            (Phase::Collecting { list, check }, ETX) => {
+                self.phase = Phase::Awaiting {
+                    list: *list,
+                    check: *check ^ ETX,
+                };
                 None
             }
-            (Phase::Collecting, b) => {
-                self.check ^= b;
-                self.list.put(b);
+            (Phase::Collecting { list, check }, b) => {
+                list.put(b);
+                *check ^= b;
                 None
             }
-            (Phase::Awaiting, b) => {
+            (Phase::Awaiting { list, check }, b) => {
+                let packet = Packet {
+                    list: *list,
+                    right: b == *check,
+                };
                 self.phase = Phase::Idle;
-                Some(Packet {
-                    list: self.list,
-                    right: b == self.check,
-                })
+                Some(packet)
             }
         }
     }

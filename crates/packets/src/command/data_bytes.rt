@@ -13,7 +13,7 @@ pub(crate) fn one_number(s: &[u8]) -> Option<u16>
     ensures { result ≡ one_number s.now }
 {
     let (n, end) = read_number(s)?;
-    if end.is_empty() { Some(n) } else { None }
+    end.is_empty().then_some(n)
 }
 
 // Three digits, and three more.
@@ -22,14 +22,14 @@ pub(crate) fn two_numbers(s: &[u8]) -> Option<(u16, u16)>
 {
     let (n, more) = read_number(s)?;
     let (m, end) = read_number(more)?;
-    if end.is_empty() { Some((n, m)) } else { None }
+    end.is_empty().then_some((n, m))
 }
 
 // 0 to 10 bytes.
 pub(crate) fn short_text(s: &[u8]) -> Option<&[u8]>
     ensures { behind result ≡ short_text s.now }
 {
-    if s.len() <= MOST_TEXT { Some(s) } else { None }
+    (s.len() <= MOST_TEXT).then_some(s)
 }
 
 // Colon, digit, colon, digit, colon, three digits.
@@ -39,23 +39,15 @@ pub(crate) fn mask_data(s: &[u8]) -> Option<(u8, u8, u16)>
     let (group, s) = read_digit(read_colon(s)?)?;
     let (bit, s) = read_digit(read_colon(s)?)?;
     let (output, end) = read_number(read_colon(s)?)?;
-    if end.is_empty() {
-        Some((group, bit, output))
-    } else {
-        None
-    }
+    end.is_empty().then_some((group, bit, output))
 }
 
 // What stands before the first colon, and what stands behind it.
 fn at_colon(s: &[u8]) -> Option<(&[u8], &[u8])>
     ensures { two_parts result ≡ at_colon s.now }
 {
-    for (i, b) in s.iter().enumerate() {
-        if *b == b':' {
-            return Some((&s[0..i], &s[i + 1..]));
-        }
-    }
-    None
+    let i = s.iter().position(|b| *b == b':')?;
+    Some((&s[..i], &s[i + 1..]))
 }
 
 // Colon, a name of 1 to 10 bytes, colon, a password of 0 to 10 bytes.
@@ -63,7 +55,7 @@ pub(crate) fn login_data(s: &[u8]) -> Option<(&[u8], &[u8])>
     ensures { two_parts result ≡ login_data s.now }
 {
     let (name, password) = at_colon(read_colon(s)?)?;
-    if 1 <= name.len() && name.len() <= MOST_TEXT && password.len() <= MOST_TEXT {
+    if (1..=MOST_TEXT).contains(&name.len()) && password.len() <= MOST_TEXT {
         Some((name, password))
     } else {
         None
