@@ -10,7 +10,14 @@ mod tests {
     use replies::change::{Change, ChangeQueue};
     use replies::reply::{ReadFault, Reply, read_reply, write_reply};
     use std::test::Fail;
+    use wire::address::AddressBytes;
     use wire::reply::{CopyFault, Draft, Header};
+
+    // The address bytes of unit 00.
+    const UNIT_00: AddressBytes = AddressBytes {
+        high: b'0',
+        low: b'0',
+    };
 
     // A reply of Q with two entries.
     const TWO_CHANGES: [u8; 19] = *b"\x0600Q2005001006002\x03\x66";
@@ -31,7 +38,7 @@ mod tests {
             return Err(Fail::new("no packet"));
         };
         let parts = packet.parts().ok_or("no parts")?;
-        assert!(rt; is_addressed(0x00, parts.high, parts.low));
+        assert!(rt; is_addressed(0x00, parts.address));
         assert!(rt; matches!(command_in(&packet, parts.body), Ok(Command::ReadQueue)));
         Ok(())
     }
@@ -42,7 +49,7 @@ mod tests {
             return Err(Fail::new("no packet"));
         };
         let parts = packet.parts().ok_or("no parts")?;
-        assert!(rt; is_addressed(0xC0, parts.high, parts.low));
+        assert!(rt; is_addressed(0xC0, parts.address));
         let Ok(Command::AskInput { output }) = command_in(&packet, parts.body) else {
             return Err(Fail::new("another command"));
         };
@@ -61,23 +68,24 @@ mod tests {
 
     #[test]
     fn status_is_read_back(rt: HostRuntime) -> Result<(), Fail> {
-        let written = write_reply(
-            b'C',
-            b'0',
-            &Reply::Status {
-                input: 3,
-                locked: true,
-                mask: 0xA5,
-            },
-        );
+        let address = AddressBytes {
+            high: b'C',
+            low: b'0',
+        };
+        let reply = Reply::Status {
+            input: 3,
+            locked: true,
+            mask: 0xA5,
+        };
+        let written = write_reply(address, &reply);
         let Ok(sealed) = written else {
             return Err(Fail::new("not written"));
         };
         let Ok(received) = read_reply(sealed.as_bytes()) else {
             return Err(Fail::new("not read"));
         };
-        assert_eq!(rt; received.high, b'C');
-        assert_eq!(rt; received.low, b'0');
+        assert_eq!(rt; received.address.high, b'C');
+        assert_eq!(rt; received.address.low, b'0');
         let Reply::Status {
             input,
             locked,
@@ -101,7 +109,7 @@ mod tests {
             output: 6,
             input: 2,
         });
-        let Ok(sealed) = write_reply(b'0', b'0', &Reply::Changes { queue }) else {
+        let Ok(sealed) = write_reply(UNIT_00, &Reply::Changes { queue }) else {
             return Err(Fail::new("not written"));
         };
         assert_eq!(rt; sealed.as_bytes(), &TWO_CHANGES[..]);
@@ -114,8 +122,20 @@ mod tests {
         let [first, second] = queue.as_slice() else {
             return Err(Fail::new("not two changes"));
         };
-        assert_eq!(rt; (first.output, first.input), (5, 1));
-        assert_eq!(rt; (second.output, second.input), (6, 2));
+        assert_eq!(rt;
+            *first,
+            Change {
+                output: 5,
+                input: 1
+            }
+        );
+        assert_eq!(rt;
+            *second,
+            Change {
+                output: 6,
+                input: 2
+            }
+        );
         Ok(())
     }
 
@@ -128,7 +148,7 @@ mod tests {
 
     #[test]
     fn sixtieth_byte_and_short_buffer_are_refused(rt: HostRuntime) -> Result<(), Fail> {
-        let mut draft = Draft::new(Header::Ack, b'0', b'0');
+        let mut draft = Draft::new(Header::Ack, UNIT_00);
         let Ok(()) = draft.add_all(&[b'.'; 59]) else {
             return Err(Fail::new("59 bytes were refused"));
         };

@@ -1,49 +1,56 @@
--- A reply by its first three bytes, its body and its last two bytes.
-use Rattle.std.proofs.Common.{◌≡◌, ℕ, suc, ◌+◌, ◌-◌, ◌≤◌, List, [], ◌∷◌, ◌++◌, length, get_or, take, Err, sym, ap, ◌∙◌, arith}
+-- A reply by its first three bytes, its body and its last two bytes, as a slice pattern has them.
+use Rattle.std.proofs.Common.{◌≡◌, ℕ, suc, ◌+◌, ◌-◌, ◌≤◌, List, [], ◌∷◌, ◌++◌, length, get_or, take, drop, Err, sym, ap, ◌∙◌, arith}
 use Rattle.std.proofs.lemmas.List.{take_more}
 use Rattle.std.proofs.lemmas.Bool.{eq-eqb, ne_eqb, le-leb, cond-true, cond-false}
 use Rattle.wire.specs.Frames.{check_byte}
-use Rattle.wire.proofs.Fronts.{rest_behind, front3}
 use Rattle.replies.specs.declared.reply.ReadFault.TheVariants.{NoEtx, WrongCheckByte}
 use Rattle.replies.specs.Replies.{read_body, with_address, if_ended, read_reply}
 
--- all bytes but the last, behind the first three
-but_last : (c h l : ℕ) (rest : List ℕ) → 1 ≤ length rest → take (length (c ∷ h ∷ l ∷ rest) - 1) (c ∷ h ∷ l ∷ rest) ≡ c ∷ h ∷ l ∷ take (length rest - 1) rest
-but_last c h l rest long =
-    let n : length (c ∷ h ∷ l ∷ rest) - 1 ≡ suc (suc (suc (length rest - 1))) = omega arith in
-    ap (λ (m : ℕ). take m (c ∷ h ∷ l ∷ rest)) n
+abbrev body : List ℕ → List ℕ
+body bytes = take (length bytes - 2 - 3) (drop 3 bytes)
 
-module _ (bytes : List ℕ) (long : 3 ≤ length bytes) (longer : 2 ≤ length (rest_behind 3 bytes)) where
-  abbrev rest : List ℕ
-  rest = rest_behind 3 bytes
+abbrev etx : List ℕ → ℕ
+etx bytes = get_or bytes (length bytes - 2) 0
 
-  abbrev body : List ℕ
-  body = take (length rest - 2) rest
+abbrev check : List ℕ → ℕ
+check bytes = get_or bytes (length bytes - 1) 0
 
-  abbrev etx : ℕ
-  etx = get_or rest (length rest - 2) 0
+-- a reply with at least five bytes is judged by its end
+opened : (bytes : List ℕ) → 5 ≤ length bytes → if_ended (get_or bytes 0 0) (get_or bytes 1 0) (get_or bytes 2 0) (body bytes) (etx bytes) (check bytes) ≡ read_reply bytes
+opened [] long = absurd (omega arith)
+opened (c ∷ []) long = absurd (omega arith)
+opened (c ∷ h ∷ []) long = absurd (omega arith)
+opened (c ∷ h ∷ l ∷ rest) long =
+    let bytes = c ∷ h ∷ l ∷ rest in
+    let n : length bytes - 2 - 3 ≡ length rest - 2 = omega arith in
+    let e : length bytes - 2 ≡ suc (suc (suc (length rest - 2))) = omega arith in
+    let k : length bytes - 1 ≡ suc (suc (suc (length rest - 1))) = omega arith in
+    (λ i. if_ended c h l (take (n i) rest) (get_or bytes (e i) 0) (get_or bytes (k i) 0)) ∙ sym (cond-true _ _ _ (le-leb 2 (length rest) (omega arith)))
 
-  abbrev check : ℕ
-  check = get_or rest (length rest - 1) 0
+-- all bytes but the last are header, address, body and ETX
+but_last : (bytes : List ℕ) → 5 ≤ length bytes → take (length bytes - 1) bytes ≡ get_or bytes 0 0 ∷ get_or bytes 1 0 ∷ get_or bytes 2 0 ∷ body bytes ++ etx bytes ∷ []
+but_last [] long = absurd (omega arith)
+but_last (c ∷ []) long = absurd (omega arith)
+but_last (c ∷ h ∷ []) long = absurd (omega arith)
+but_last (c ∷ h ∷ l ∷ rest) long =
+    let bytes = c ∷ h ∷ l ∷ rest in
+    let k : length bytes - 1 ≡ suc (suc (suc (length rest - 2 + 1))) = omega arith in
+    let n : length rest - 2 ≡ length bytes - 2 - 3 = omega arith in
+    let e : suc (suc (suc (length rest - 2))) ≡ length bytes - 2 = omega arith in
+    ap (λ (m : ℕ). take m bytes) k
+    ∙ ap (λ (b : List ℕ). c ∷ h ∷ l ∷ b) (take_more rest (length rest - 2) 0 (omega arith))
+    ∙ (λ i. c ∷ h ∷ l ∷ take (n i) rest ++ get_or bytes (e i) 0 ∷ [])
 
-  opened : if_ended (get_or bytes 0 0) (get_or bytes 1 0) (get_or bytes 2 0) body etx check ≡ read_reply bytes
-  opened = sym (cond-true _ _ _ (le-leb 2 (length rest) longer)) ∙ ap read_reply (front3 bytes long)
+module _ (bytes : List ℕ) (long : 5 ≤ length bytes) where
+  pub no_etx : (etx bytes ≡ 3 → ⊥) → Err NoEtx ≡ read_reply bytes
+  no_etx other = sym (cond-false _ _ _ (ne_eqb (etx bytes) 3 other)) ∙ opened bytes long
 
-  pub no_etx : (etx ≡ 3 → ⊥) → Err NoEtx ≡ read_reply bytes
-  no_etx other = sym (cond-false _ _ _ (ne_eqb etx 3 other)) ∙ opened
+  module _ (is_etx : etx bytes ≡ 3) where
+    summed : check_byte (take (length bytes - 1) bytes) ≡ check_byte (get_or bytes 0 0 ∷ get_or bytes 1 0 ∷ get_or bytes 2 0 ∷ body bytes ++ 3 ∷ [])
+    summed = ap check_byte (but_last bytes long) ∙ ap (λ (x : ℕ). check_byte (get_or bytes 0 0 ∷ get_or bytes 1 0 ∷ get_or bytes 2 0 ∷ body bytes ++ x ∷ [])) is_etx
 
-  module _ (is_etx : etx ≡ 3) where
-    summed : check_byte (take (length bytes - 1 - 0) bytes) ≡ check_byte (get_or bytes 0 0 ∷ get_or bytes 1 0 ∷ get_or bytes 2 0 ∷ body ++ 3 ∷ [])
-    summed =
-        let n : length bytes - 1 - 0 ≡ length bytes - 1 = omega arith in
-        let k : length rest - 1 ≡ length rest - 2 + 1 = omega arith in
-        ap (λ (m : ℕ). check_byte (take m bytes)) n
-        ∙ ap (λ (b : List ℕ). check_byte (take (length b - 1) b)) (sym (front3 bytes long))
-        ∙ ap check_byte (but_last (get_or bytes 0 0) (get_or bytes 1 0) (get_or bytes 2 0) rest (omega arith))
-        ∙ ap (λ (b : List ℕ). check_byte (get_or bytes 0 0 ∷ get_or bytes 1 0 ∷ get_or bytes 2 0 ∷ b)) (ap (λ (m : ℕ). take m rest) k ∙ take_more rest (length rest - 2) 0 (omega arith) ∙ ap (λ (x : ℕ). body ++ x ∷ []) is_etx)
+    pub wrong_check : (check bytes ≡ check_byte (take (length bytes - 1) bytes) → ⊥) → Err WrongCheckByte ≡ read_reply bytes
+    wrong_check other = sym (cond-false _ _ _ (ne_eqb (check bytes) _ (λ e. other (e ∙ sym summed)))) ∙ sym (cond-true _ _ _ (eq-eqb (etx bytes) 3 is_etx)) ∙ opened bytes long
 
-    pub wrong_check : (check ≡ check_byte (take (length bytes - 1 - 0) bytes) → ⊥) → Err WrongCheckByte ≡ read_reply bytes
-    wrong_check other = sym (cond-false _ _ _ (ne_eqb check _ (λ e. other (e ∙ sym summed)))) ∙ sym (cond-true _ _ _ (eq-eqb etx 3 is_etx)) ∙ opened
-
-    pub right_check : check ≡ check_byte (take (length bytes - 1 - 0) bytes) → with_address (get_or bytes 1 0) (get_or bytes 2 0) (read_body (get_or bytes 0 0) body) ≡ read_reply bytes
-    right_check same = sym (cond-true _ _ _ (eq-eqb check _ (same ∙ summed))) ∙ sym (cond-true _ _ _ (eq-eqb etx 3 is_etx)) ∙ opened
+    pub right_check : check bytes ≡ check_byte (take (length bytes - 1) bytes) → with_address (get_or bytes 1 0) (get_or bytes 2 0) (read_body (get_or bytes 0 0) (body bytes)) ≡ read_reply bytes
+    right_check same = sym (cond-true _ _ _ (eq-eqb (check bytes) _ (same ∙ summed))) ∙ sym (cond-true _ _ _ (eq-eqb (etx bytes) 3 is_etx)) ∙ opened bytes long

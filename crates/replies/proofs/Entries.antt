@@ -1,15 +1,16 @@
 -- The entries of a queue, written one behind the other, and read so.
-use Rattle.std.proofs.Common.{◌≡◌, ℕ, zero, suc, ◌+◌, ◌-◌, ◌*◌, ◌<◌, ◌≤◌, Bool, true, false, cond, ◌&&◌, eqb, ltb, leb, List, [], ◌∷◌, ◌++◌, length, get_or, Some, None, Option, sym, refl, ap, ◌∙◌, arith, length-append}
+use Rattle.std.proofs.Common.{◌≡◌, ℕ, zero, suc, ◌+◌, ◌-◌, ◌*◌, ◌<◌, ◌≤◌, Bool, true, false, cond, eqb, ltb, leb, List, [], ◌∷◌, ◌++◌, length, get_or, Some, None, Decides, Option, sym, refl, ap, ◌∙◌, arith, length-append}
 use Rattle.std.specs.List.{AllByRecursion}
 use Rattle.std.proofs.lemmas.List.{append-nil, append_assoc}
-use Rattle.std.proofs.lemmas.Bool.{lt-ltb, le-leb, cond-true, and_from}
+use Rattle.std.proofs.lemmas.Option.{none-some, cond_some}
+use Rattle.std.proofs.lemmas.Bool.Decides.{Decides-and, Decides-ltb}
+use Rattle.std.proofs.lemmas.Bool.{lt-ltb, le-leb, cond-true}
 use Rattle.wire.specs.Fields.{Field, three_digits, read_number, then}
 use Rattle.wire.specs.Frames.{Frame, added}
 use Rattle.replies.specs.declared.change.Change.{Change}
 use Rattle.wire.specs.Kept.{Kept, empty, put}
-use Rattle.replies.specs.Replies.{entry_digits, SmallChange, with_entry, read_entries}
+use Rattle.replies.specs.Replies.{entry_digits, small_change, SmallChange, with_entry, read_entries}
 use Rattle.replies.specs.Replying.{behind_entry, put_if, entered_at, entered}
-use Rattle.replies.proofs.Sizes.{both_below}
 
 -- a Q answer that counts n entries, so far as the entries cs are written
 abbrev pub entries_frame : ℕ → ℕ → ℕ → List Change → Frame
@@ -41,13 +42,14 @@ small_at (c ∷ cs) zero d h a = a.0
 small_at (c ∷ cs) (suc i) d h a = small_at cs i d (omega arith) a.1
 
 -- the digits of a change are there exactly if both numbers have three digits
-pub digits_of : (c : Change) (x : List ℕ) → Some x ≡ cond (ltb c.output 1000 && ltb c.input 1000) (Some (one_entry c)) None → SmallChange c × (x ≡ one_entry c)
-digits_of c x e = let d = both_below c.output c.input x (one_entry c) e in ((d.0, d.1), d.2)
+pub small : (c : Change) → Decides (small_change c) (SmallChange c)
+small c = Decides-and (ltb c.output 1000) (ltb c.input 1000) (Decides-ltb c.output 1000) (Decides-ltb c.input 1000)
 
-pub no_digits : (c : Change) → None ≡ cond (ltb c.output 1000 && ltb c.input 1000) (Some (one_entry c)) None → SmallChange c → ⊥
-no_digits c e s =
-    let some : None ≡ Some (one_entry c) = e ∙ cond-true _ _ _ (and_from _ _ (lt-ltb c.output 1000 s.0) (lt-ltb c.input 1000 s.1)) in
-    let z : ◌≡◌ {A = ℕ} 0 1 = cc in omega arith
+pub digits_of : (c : Change) (x : List ℕ) → Some x ≡ cond (small_change c) (Some (one_entry c)) None → SmallChange c × (x ≡ one_entry c)
+digits_of c x e = let p = cond_some _ (one_entry c) x (sym e) in ((small c).0 p.0, sym p.1)
+
+pub no_digits : (c : Change) → None ≡ cond (small_change c) (Some (one_entry c)) None → SmallChange c → ⊥
+no_digits c e s = none-some _ (e ∙ cond-true _ _ _ ((small c).1 s))
 
 -- ---- read
 
@@ -68,7 +70,7 @@ pub record EntryRead (k j : Kept Change) (m : ℕ) (xs ys : List ℕ) : Type 0 w
 
 input_read : (k : Kept Change) (m o : ℕ) (ys : List ℕ) (g : Field ℕ) → length k.items < 8 → Some ys ≡ then g (λ i b. Some b)
     → (prefixed k.items (then g (λ i b. with_entry o i (read_entries m b))) ≡ prefixed (put_if k o g).items (read_entries m ys)) × (length (put_if k o g).items ≡ length k.items + 1) × ((put_if k o g).overrun ≡ k.overrun)
-input_read k m o ys None few e = let z : ◌≡◌ {A = ℕ} 0 1 = cc in absurd (omega arith)
+input_read k m o ys None few e = absurd (none-some _ (sym e))
 input_read k m o ys (Some p) few e =
     let same : ys ≡ p.1 = cc in
     let x : Change = record { output = o; input = p.0 } in
@@ -80,7 +82,7 @@ input_read k m o ys (Some p) few e =
 
 output_read : (k : Kept Change) (m : ℕ) (ys : List ℕ) (f : Field ℕ) → length k.items < 8 → Some ys ≡ then f (λ o a. then (read_number a) (λ i b. Some b))
     → (prefixed k.items (then f (λ o a. then (read_number a) (λ i b. with_entry o i (read_entries m b)))) ≡ prefixed (entered_at k f).items (read_entries m ys)) × (length (entered_at k f).items ≡ length k.items + 1) × ((entered_at k f).overrun ≡ k.overrun)
-output_read k m ys None few e = let z : ◌≡◌ {A = ℕ} 0 1 = cc in absurd (omega arith)
+output_read k m ys None few e = absurd (none-some _ (sym e))
 output_read k m ys (Some p) few e = input_read k m p.0 ys (read_number p.1) few e
 
 pub entry_read : (k : Kept Change) (m : ℕ) (xs ys : List ℕ) → length k.items < 8 → Some ys ≡ behind_entry xs → EntryRead k (entered k xs) m xs ys
@@ -88,7 +90,7 @@ entry_read k m xs ys few e = let r = output_read k m ys (read_number xs) few e i
 
 no_input : (m o : ℕ) (g : Field ℕ) → None ≡ then {W = List ℕ} g (λ i b. Some b) → then g (λ i b. with_entry o i (read_entries m b)) ≡ None
 no_input m o None e = refl
-no_input m o (Some p) e = let z : ◌≡◌ {A = ℕ} 0 1 = cc in absurd (omega arith)
+no_input m o (Some p) e = absurd (none-some _ e)
 
 no_output : (m : ℕ) (f : Field ℕ) → None ≡ then {W = List ℕ} f (λ o a. then (read_number a) (λ i b. Some b)) → then f (λ o a. then (read_number a) (λ i b. with_entry o i (read_entries m b))) ≡ None
 no_output m None e = refl

@@ -1,25 +1,20 @@
 -- The test of a reply is passed exactly if its numbers fit their places; what was written is what the test says, and its body is short.
-use Rattle.std.proofs.Common.{◌≡◌, ℕ, ◌≤◌, Bool, true, false, cond, ◌&&◌, ltb, leb, List, length, Ok, Err, Decides, Result, sym, refl, ap, ◌∙◌, arith}
+use Rattle.std.proofs.Common.{◌≡◌, ℕ, ◌≤◌, Bool, true, false, cond, ◌&&◌, ltb, leb, List, length, Ok, Err, Decides, sym, refl, arith}
 use Rattle.std.specs.List.{AllByRecursion}
 use Rattle.std.proofs.lemmas.Bool.{leb-true, le-leb, cond-true}
 use Rattle.std.proofs.lemmas.Bool.Decides.{Decides-and, Decides-ltb, Decides-like}
 use Rattle.std.proofs.ByRecursion.{Decides-by_and}
-use Rattle.wire.specs.declared.reply.SealedReply.{SealedReply}
 use Rattle.replies.specs.declared.change.Change.{Change}
-use Rattle.replies.specs.declared.reply.WriteFault.{WriteFault}
 use Rattle.replies.specs.declared.reply.WriteFault.TheVariants.{NumberTooLarge}
 use Rattle.replies.specs.Replies.{Contents, keypad_locked, keypad_unlocked, output_locked, output_set, output_unlocked, ethernet_changed, mask_set, flags, version, keypad_state, feeding_input, status, changes, login, logged_in, Reply, ack, nak, contents_bytes, longest_body, reply_bytes, small_change, all_small, fits_contents, fits_reply, SmallChange, FitsContents, Fits, TestTellsWhatFits, RepliesAreShort}
-use Rattle.replies.specs.Replying.{Written, written_result, write_answer}
-use Rattle.replies.proofs.Entries.{entries-length}
+use Rattle.replies.specs.Replying.{write_answer}
+use Rattle.replies.proofs.Entries.{entries-length, small}
 
 decides_leb : (a b : ℕ) → Decides (leb a b) (a ≤ b)
 decides_leb a b = (leb-true a b, le-leb a b)
 
 always : Decides true (Unit {0})
 always = (λ _. tt, λ _. refl)
-
-small : (c : Change) → Decides (small_change c) (SmallChange c)
-small c = Decides-and (ltb c.output 1000) (ltb c.input 1000) (Decides-ltb c.output 1000) (Decides-ltb c.input 1000)
 
 each_small : (cs : List Change) → Decides (all_small cs) (AllByRecursion SmallChange cs)
 each_small cs = Decides-by_and small_change SmallChange all_small small refl (λ _ _. refl) cs
@@ -47,13 +42,15 @@ pub test_tells : (r : Reply) → TestTellsWhatFits r
 test_tells (ack c) = contents_test c
 test_tells (nak x) = always
 
-refused : (h l : ℕ) (r : Reply) (b : Bool) → fits_reply r ≡ b → (Fits r → ⊥) → Err NumberTooLarge ≡ cond b (Ok (reply_bytes h l r)) (Err NumberTooLarge)
-refused h l r true e unfit = absurd (unfit ((test_tells r).0 e))
-refused h l r false e unfit = refl
+pub written : (h l : ℕ) (r : Reply) → Fits r → Ok (reply_bytes h l r) ≡ write_answer h l r
+written h l r fit = sym (cond-true _ _ _ ((test_tells r).1 fit))
 
-pub by_value : (h l : ℕ) (r : Reply) (x : Result SealedReply WriteFault) → Written h l r x → written_result x ≡ write_answer h l r
-by_value h l r (Ok s) w = ap (λ (b : List ℕ). Ok b) w.1 ∙ sym (cond-true _ _ _ ((test_tells r).1 w.0))
-by_value h l r (Err f) w = ap (λ (g : WriteFault). Err g) w.0 ∙ refused h l r (fits_reply r) refl w.1
+pub refused : (h l : ℕ) (r : Reply) → (Fits r → ⊥) → Err NumberTooLarge ≡ write_answer h l r
+refused h l r unfit = by (fits_reply r) (test_tells r).0
+  where
+    by : (b : Bool) → (b ≡ true → Fits r) → Err NumberTooLarge ≡ cond b (Ok (reply_bytes h l r)) (Err NumberTooLarge)
+    by true fit = absurd (unfit (fit refl))
+    by false fit = refl
 
 short_contents : (c : Contents) → FitsContents c → length (contents_bytes c) ≤ longest_body
 short_contents keypad_locked f = omega arith

@@ -1,9 +1,5 @@
-pub mod Texts
-pub mod Sizes
-pub mod Bodies
 pub mod Entries
 pub mod ReadBack
-pub mod Prefixes
 pub mod Ends
 pub mod Fitting
 pub mod FieldsRead

@@ -3,6 +3,7 @@ use Rattle.std.proofs.Common.{◌≡◌, ℕ, zero, suc, ◌+◌, ◌-◌, ◌<�
 use Rattle.std.specs.List.{AllByRecursion}
 use Rattle.std.proofs.lemmas.List.{take_more, take_all}
 use Rattle.std.proofs.lemmas.Bool.{eqb-true, leb-true}
+use Rattle.std.proofs.lemmas.Option.{none-some, cond_some}
 use Rattle.wire.specs.Fields.{one_digit, three_digits, two_hex, read_digit, read_number, read_hex, read_colon, then, past, ended}
 use Rattle.wire.specs.Frames.{check_byte, on_line}
 use Rattle.wire.specs.Letters.{looked_up}
@@ -10,7 +11,7 @@ use Rattle.replies.specs.declared.change.Change.{Change}
 use Rattle.replies.specs.declared.reply.ReadFault.{ReadFault}
 use Rattle.replies.specs.declared.reply.ReadFault.TheVariants.{NoHeader, NoEtx, WrongCheckByte, TooShort}
 use Rattle.replies.specs.Replies.{Contents, keypad_locked, keypad_unlocked, output_locked, output_set, output_unlocked, ethernet_changed, mask_set, flags, version, keypad_state, feeding_input, status, changes, login, logged_in, Reply, ack, nak, flag_byte, locked_letter, model_text, entry_digits, contents_bytes, header_of, body_of, reply_bytes, bit, read_locked, read_x, read_model, read_flags, with_entry, read_entries, changes_if, read_changes, read_keypad, read_input, read_status, read_version, login_if_short, read_login, read_logged_in, answers, acked, read_letter, or_no_contents, read_body, Received, with_address, if_ended, SmallChange, FitsContents, Fits, OnlyWrittenRepliesAreRead}
-use Rattle.replies.proofs.FieldsRead.{nothing, digit_read, number_read, hex_read, colon_read, x_read, locked_read, model_read, end_read, row_read}
+use Rattle.replies.proofs.FieldsRead.{digit_read, number_read, hex_read, colon_read, x_read, locked_read, model_read, end_read, row_read}
 
 -- ---- entries
 
@@ -18,7 +19,7 @@ abbrev EntriesAre : ℕ → List Change → List ℕ → Type 0
 EntriesAre n cs xs = (n ≡ length cs) × AllByRecursion SmallChange cs × (xs ≡ entry_digits cs)
 
 with_entry_read : (n o i : ℕ) (cs : List Change) (b : List ℕ) (r : Option (List Change)) → o < 1000 → i < 1000 → ((ds : List Change) → r ≡ Some ds → EntriesAre n ds b) → with_entry o i r ≡ Some cs → EntriesAre (suc n) cs (three_digits o ++ three_digits i ++ b)
-with_entry_read n o i cs b None p q f e = absurd (nothing cs e)
+with_entry_read n o i cs b None p q f e = absurd (none-some cs e)
 with_entry_read n o i cs b (Some ds) p q f e =
     let same : record { output = o; input = i } ∷ ds ≡ cs = cc in
     let rest = f ds refl in
@@ -39,12 +40,12 @@ abbrev Spells : Contents → List ℕ → Type 0
 Spells c xs = FitsContents c × (xs ≡ contents_bytes c)
 
 flags_read : (c : Contents) (xs : List ℕ) → read_flags xs ≡ Some c → Spells c (codes "C" ++ xs)
-flags_read c [] e = absurd (nothing c e)
+flags_read c [] e = absurd (none-some c e)
 flags_read c (b ∷ rest) e = by (eqb b (flag_byte (bit b 1) (bit b 4) (bit b 8))) refl e
   where
     by : (t : Bool) → eqb b (flag_byte (bit b 1) (bit b 4) (bit b 8)) ≡ t → cond t (ended (flags (bit b 1) (bit b 4) (bit b 8)) rest) None ≡ Some c → Spells c (codes "C" ++ b ∷ rest)
     by true p e = end_read (λ (d : Contents) (l : List ℕ). Spells d (codes "C" ++ b ∷ l)) (flags (bit b 1) (bit b 4) (bit b 8)) c rest e (tt, ap (λ (x : ℕ). codes "C" ++ x ∷ []) (eqb-true b _ p))
-    by false p e = absurd (nothing c e)
+    by false p e = absurd (none-some c e)
 
 keypad_read : (c : Contents) (xs : List ℕ) → read_keypad xs ≡ Some c → Spells c (codes "KS" ++ xs)
 keypad_read c xs e =
@@ -73,8 +74,8 @@ version_read c xs e =
 
 -- a count of at most eight, and the entries behind it
 counted_read : (c : Contents) (n : ℕ) (es : List ℕ) (t : Bool) (r : Option (List Change)) → leb n 8 ≡ t → read_entries n es ≡ r → cond t (changes_if r) None ≡ Some c → Spells c (codes "Q" ++ one_digit n ++ es)
-counted_read c n es false r p q e = absurd (nothing c e)
-counted_read c n es true None p q e = absurd (nothing c e)
+counted_read c n es false r p q e = absurd (none-some c e)
+counted_read c n es true None p q e = absurd (none-some c e)
 counted_read c n es true (Some cs) p q e =
     let same : changes cs ≡ c = cc in
     let are = entries_read n es cs q in
@@ -86,11 +87,10 @@ changes_read c xs e =
     digit_read c (λ a. Spells c (codes "Q" ++ a)) xs (λ n es. cond (leb n 8) (changes_if (read_entries n es)) None) e (λ n es p k.
     counted_read c n es (leb n 8) (read_entries n es) refl refl k)
 
-named_read : (c : Contents) (u g : ℕ) (n : List ℕ) (t : Bool) → u < 10 → g < 10 → leb (length n) 10 ≡ t → cond t (Some (login u g n)) None ≡ Some c → Spells c (codes "ZC:" ++ one_digit u ++ codes ":" ++ one_digit g ++ codes ":" ++ n)
-named_read c u g n false p q b e = absurd (nothing c e)
-named_read c u g n true p q b e =
-    let same : login u g n ≡ c = cc in
-    subst (λ (d : Contents). Spells d (codes "ZC:" ++ one_digit u ++ codes ":" ++ one_digit g ++ codes ":" ++ n)) same ((p, q, leb-true (length n) 10 b), refl)
+named_read : (c : Contents) (u g : ℕ) (n : List ℕ) → u < 10 → g < 10 → login_if_short u g n ≡ Some c → Spells c (codes "ZC:" ++ one_digit u ++ codes ":" ++ one_digit g ++ codes ":" ++ n)
+named_read c u g n p q e =
+    let k = cond_some _ (login u g n) c e in
+    subst (λ (d : Contents). Spells d (codes "ZC:" ++ one_digit u ++ codes ":" ++ one_digit g ++ codes ":" ++ n)) k.1 ((p, q, leb-true (length n) 10 k.0), refl)
 
 login_read : (c : Contents) (xs : List ℕ) → read_login xs ≡ Some c → Spells c (codes "ZC" ++ xs)
 login_read c xs e =
@@ -99,7 +99,7 @@ login_read c xs e =
     colon_read c (λ a. Spells c (codes "ZC:" ++ one_digit u ++ a)) xs (λ c. then (read_digit c) (λ g d. past (read_colon d) (λ n. login_if_short u g n))) k (λ xs k.
     digit_read c (λ a. Spells c (codes "ZC:" ++ one_digit u ++ codes ":" ++ a)) xs (λ g d. past (read_colon d) (λ n. login_if_short u g n)) k (λ g xs q k.
     colon_read c (λ a. Spells c (codes "ZC:" ++ one_digit u ++ codes ":" ++ one_digit g ++ a)) xs (λ n. login_if_short u g n) k (λ n k.
-    named_read c u g n (leb (length n) 10) p q refl k)))))
+    named_read c u g n p q k)))))
 
 logged_in_read : (c : Contents) (xs : List ℕ) → read_logged_in xs ≡ Some c → Spells c (codes "ZI" ++ xs)
 logged_in_read c xs e =
@@ -167,19 +167,19 @@ contents_read c xs e =
 abbrev BeginsAndSpells : ℕ → List ℕ → Reply → Type 0
 BeginsAndSpells c xs r = (c ≡ header_of r) × Fits r × (xs ≡ body_of r)
 
-fault_reads_none : (r : Reply) (f : ReadFault) → ◌≡◌ {A = Result Reply ReadFault} (Err f) (Ok r) → ⊥
-fault_reads_none r f e = let z : ◌≡◌ {A = ℕ} 0 1 = cc in omega arith
+fault_is_no_value : {V : Type 0} (v : V) (f : ReadFault) → ◌≡◌ {A = Result V ReadFault} (Err f) (Ok v) → ⊥
+fault_is_no_value v f e = let z : ◌≡◌ {A = ℕ} 0 1 = cc in omega arith
 
 ack_read : (xs : List ℕ) (r : Reply) (o : Option Contents) → looked_up None answers xs ≡ o → or_no_contents (acked o) ≡ Ok r → BeginsAndSpells 6 xs r
-ack_read xs r None p e = absurd (fault_reads_none r _ e)
+ack_read xs r None p e = absurd (fault_is_no_value r _ e)
 ack_read xs r (Some c) p e =
     let same : ack c ≡ r = cc in
     let spelt = contents_read c xs p in
     subst (BeginsAndSpells 6 xs) same (refl, spelt.0, spelt.1)
 
 nak_read : (xs : List ℕ) (r : Reply) (o : Option Reply) → read_letter xs ≡ o → or_no_contents o ≡ Ok r → BeginsAndSpells 21 xs r
-nak_read xs r None p e = absurd (fault_reads_none r _ e)
-nak_read [] r (Some s) p e = absurd (nothing s p)
+nak_read xs r None p e = absurd (fault_is_no_value r _ e)
+nak_read [] r (Some s) p e = absurd (none-some s p)
 nak_read (x ∷ rest) r (Some s) p e =
     let same : s ≡ r = cc in
     subst (BeginsAndSpells 21 (x ∷ rest)) same (end_read (λ (q : Reply) (a : List ℕ). BeginsAndSpells 21 (x ∷ a) q) (nak x) s rest p (refl, tt, refl))
@@ -187,7 +187,7 @@ nak_read (x ∷ rest) r (Some s) p e =
 body_read : (c : ℕ) (xs : List ℕ) (r : Reply) (t u : Bool) → eqb c 6 ≡ t → eqb c 21 ≡ u → cond t (or_no_contents (acked (looked_up None answers xs))) (cond u (or_no_contents (read_letter xs)) (Err NoHeader)) ≡ Ok r → BeginsAndSpells c xs r
 body_read c xs r true u p q e = subst (λ (b : ℕ). BeginsAndSpells b xs r) (sym (eqb-true c 6 p)) (ack_read xs r (looked_up None answers xs) refl e)
 body_read c xs r false true p q e = subst (λ (b : ℕ). BeginsAndSpells b xs r) (sym (eqb-true c 21 q)) (nak_read xs r (read_letter xs) refl e)
-body_read c xs r false false p q e = absurd (fault_reads_none r _ e)
+body_read c xs r false false p q e = absurd (fault_is_no_value r _ e)
 
 -- ---- whole replies
 
@@ -201,9 +201,6 @@ two_last xs h =
     ∙ ap (λ (m : ℕ). take m xs) (sym two) ∙ take_more xs (n - 1) 0 (omega arith)
     ∙ ap (λ (a : List ℕ). a ++ get_or xs (n - 1) 0 ∷ []) (ap (λ (m : ℕ). take m xs) (sym one) ∙ take_more xs (n - 2) 0 (omega arith))
 
-none_received : (x : Received) (f : ReadFault) → ◌≡◌ {A = Result Received ReadFault} (Err f) (Ok x) → ⊥
-none_received x f e = let z : ◌≡◌ {A = ℕ} 0 1 = cc in omega arith
-
 -- a body that was read, with an end that was right
 framed : (c h l : ℕ) (body : List ℕ) (check : ℕ) (r : Reply) → check ≡ check_byte (c ∷ h ∷ l ∷ body ++ 3 ∷ []) → BeginsAndSpells c body r → Fits r × (c ∷ h ∷ l ∷ (body ++ 3 ∷ []) ++ check ∷ [] ≡ reply_bytes h l r)
 framed c h l body check r e s = (
@@ -215,27 +212,27 @@ abbrev WrittenFor : List ℕ → Received → Type 0
 WrittenFor xs x = Fits x.reply × (xs ≡ reply_bytes x.high x.low x.reply)
 
 addressed : (c h l : ℕ) (body : List ℕ) (check : ℕ) (x : Received) (o : Result Reply ReadFault) → check ≡ check_byte (c ∷ h ∷ l ∷ body ++ 3 ∷ []) → read_body c body ≡ o → with_address h l o ≡ Ok x → WrittenFor (c ∷ h ∷ l ∷ (body ++ 3 ∷ []) ++ check ∷ []) x
-addressed c h l body check x (Err f) k p e = absurd (none_received x f e)
+addressed c h l body check x (Err f) k p e = absurd (fault_is_no_value x f e)
 addressed c h l body check x (Ok r) k p e =
     let same : record { high = h; low = l; reply = r } ≡ x = cc in
     subst (WrittenFor (c ∷ h ∷ l ∷ (body ++ 3 ∷ []) ++ check ∷ [])) same (framed c h l body check r k (body_read c body r (eqb c 6) (eqb c 21) refl refl p))
 
 end_judged : (c h l : ℕ) (body : List ℕ) (etx check : ℕ) (x : Received) (t u : Bool) → eqb etx 3 ≡ t → eqb check (check_byte (c ∷ h ∷ l ∷ body ++ 3 ∷ [])) ≡ u
     → cond t (cond u (with_address h l (read_body c body)) (Err WrongCheckByte)) (Err NoEtx) ≡ Ok x → WrittenFor (c ∷ h ∷ l ∷ (body ++ etx ∷ []) ++ check ∷ []) x
-end_judged c h l body etx check x false u p q e = absurd (none_received x _ e)
-end_judged c h l body etx check x true false p q e = absurd (none_received x _ e)
+end_judged c h l body etx check x false u p q e = absurd (fault_is_no_value x _ e)
+end_judged c h l body etx check x true false p q e = absurd (fault_is_no_value x _ e)
 end_judged c h l body etx check x true true p q e =
     subst (λ (b : ℕ). WrittenFor (c ∷ h ∷ l ∷ (body ++ b ∷ []) ++ check ∷ []) x) (sym (eqb-true etx 3 p)) (addressed c h l body check x (read_body c body) (eqb-true check _ q) refl e)
 
 long_enough : (c h l : ℕ) (rest : List ℕ) (x : Received) (t : Bool) → leb 2 (length rest) ≡ t
     → cond t (if_ended c h l (take (length rest - 2) rest) (get_or rest (length rest - 2) 0) (get_or rest (length rest - 1) 0)) (Err TooShort) ≡ Ok x → WrittenFor (c ∷ h ∷ l ∷ rest) x
-long_enough c h l rest x false p e = absurd (none_received x _ e)
+long_enough c h l rest x false p e = absurd (fault_is_no_value x _ e)
 long_enough c h l rest x true p e =
     subst (λ (a : List ℕ). WrittenFor (c ∷ h ∷ l ∷ a) x) (sym (two_last rest (leb-true 2 (length rest) p)))
     (end_judged c h l (take (length rest - 2) rest) (get_or rest (length rest - 2) 0) (get_or rest (length rest - 1) 0) x _ _ refl refl e)
 
 pub only_written : (xs : List ℕ) → OnlyWrittenRepliesAreRead xs
-only_written [] x e = absurd (none_received x _ e)
-only_written (c ∷ []) x e = absurd (none_received x _ e)
-only_written (c ∷ h ∷ []) x e = absurd (none_received x _ e)
+only_written [] x e = absurd (fault_is_no_value x _ e)
+only_written (c ∷ []) x e = absurd (fault_is_no_value x _ e)
+only_written (c ∷ h ∷ []) x e = absurd (fault_is_no_value x _ e)
 only_written (c ∷ h ∷ l ∷ rest) x e = long_enough c h l rest x (leb 2 (length rest)) refl e

@@ -1,6 +1,8 @@
 -- A reply that was written is read as what it was written for.
 use Rattle.std.proofs.Common.{◌≡◌, ℕ, ◌+◌, ◌-◌, ◌/◌, ◌<◌, true, false, cond, eqb, leb, List, [], ◌∷◌, ◌++◌, length, get_or, take, Some, None, Ok, refl, ap, ◌∙◌, arith, length-append}
 use Rattle.std.specs.List.{AllByRecursion}
+use Rattle.std.proofs.Math.Seq.{take-append_seam, get_or-append_seam}
+use Rattle.std.proofs.lemmas.List.{append_assoc, get_or-append-add}
 use Rattle.std.proofs.lemmas.Bool.{eq-eqb, ne_eqb, le-leb, cond-true}
 use Rattle.wire.specs.Fields.{read_digit, read_number, read_hex, read_colon, two_hex, one_digit, three_digits, then, past, ended}
 use Rattle.wire.specs.Frames.{check_byte, up_to_etx}
@@ -68,30 +70,17 @@ body_back (nak x) f = refl
 
 -- ---- whole replies
 
--- bytes b with two more behind them, taken apart
-front_of : (b : List ℕ) (x k : ℕ) → take (length b) ((b ++ x ∷ []) ++ k ∷ []) ≡ b
-front_of [] x k = refl
-front_of (a ∷ b) x k = ap (λ (r : List ℕ). a ∷ r) (front_of b x k)
-
-last_but_one : (b : List ℕ) (x k : ℕ) → get_or ((b ++ x ∷ []) ++ k ∷ []) (length b) 0 ≡ x
-last_but_one [] x k = refl
-last_but_one (a ∷ b) x k = last_but_one b x k
-
-last : (b : List ℕ) (k : ℕ) → get_or (b ++ k ∷ []) (length b) 0 ≡ k
-last [] k = refl
-last (a ∷ b) k = last b k
-
 -- the end that was written is ETX and the right check byte
 ended_back : (c h l : ℕ) (b : List ℕ) (k : ℕ) → k ≡ check_byte (c ∷ h ∷ l ∷ b ++ 3 ∷ []) → if_long_enough c h l ((b ++ 3 ∷ []) ++ k ∷ []) ≡ with_address h l (read_body c b)
 ended_back c h l b k e =
-    let xs = (b ++ 3 ∷ []) ++ k ∷ [] in
-    let one : length (b ++ 3 ∷ []) ≡ length b + 1 = length-append b (3 ∷ []) in
-    let two : length xs ≡ length b + 2 = omega (arith, one, length-append (b ++ 3 ∷ []) (k ∷ [])) in
-    let at_body : length xs - 2 ≡ length b = omega (arith, two) in
-    let at_end : length xs - 1 ≡ length (b ++ 3 ∷ []) = omega (arith, two, one) in
-    cond-true _ _ _ (le-leb 2 (length xs) (omega (arith, two)))
-    ∙ (λ i. if_ended c h l (take (at_body i) xs) (get_or xs (at_body i) 0) (get_or xs (at_end i) 0))
-    ∙ (λ i. if_ended c h l (front_of b 3 k i) (last_but_one b 3 k i) (last (b ++ 3 ∷ []) k i))
+    let xs = b ++ 3 ∷ k ∷ [] in
+    let two : length xs ≡ length b + 2 = length-append b (3 ∷ k ∷ []) in
+    let at_etx : length xs - 2 ≡ length b = omega (arith, two) in
+    let at_check : length xs - 1 ≡ length b + 1 = omega (arith, two) in
+    ap (if_long_enough c h l) (append_assoc b (3 ∷ []) (k ∷ []))
+    ∙ cond-true _ _ _ (le-leb 2 (length xs) (omega (arith, two)))
+    ∙ (λ i. if_ended c h l (take (at_etx i) xs) (get_or xs (at_etx i) 0) (get_or xs (at_check i) 0))
+    ∙ (λ i. if_ended c h l (take-append_seam b (3 ∷ k ∷ []) i) (get_or-append_seam b 3 (k ∷ []) 0 i) (get_or-append-add b (3 ∷ k ∷ []) 1 0 i))
     ∙ cond-true _ _ _ (eq-eqb k (check_byte (c ∷ h ∷ l ∷ b ++ 3 ∷ [])) e)
 
 pub reads_back : (h l : ℕ) (r : Reply) → ReplyReadsBack h l r

@@ -53,7 +53,7 @@
 --   OnlyWrittenRepliesAreRead       bytes that are read as a reply are those that are written for it, and it fits
 use Rattle.std.specs.Prelude.{◌≡◌, ℕ, zero, suc, ◌+◌, ◌-◌, ◌/◌, ◌%◌, ◌<◌, ◌≤◌, Bool, true, false, cond, ◌&&◌, List, [], ◌∷◌, ◌++◌, length, take, drop, Some, None, Ok, Err, codes, Decides, Option, Result, ◌==◌, nat_le, nat_lt, slice_index}
 use Rattle.std.specs.List.{AllByRecursion}
-use Rattle.wire.specs.Fields.{Field, one_digit, three_digits, two_hex, read_digit, read_number, read_hex, read_colon, then, past, ended, most_text}
+use Rattle.wire.specs.Fields.{Field, one_digit, three_digits, two_hex, read_digit, read_number, read_hex, read_mark, read_colon, then, past, ended, most_text}
 use Rattle.wire.specs.Frames.{Frame, check_byte, on_line}
 use Rattle.wire.specs.Letters.{Row, row, begins, looked_up}
 use Rattle.wire.specs.Drafts.{header_byte}
@@ -140,8 +140,7 @@ read_locked [] = None
 read_locked (a ∷ rest) = cond (a == 0x4C) (Some (true, rest)) (cond (a == 0x55) (Some (false, rest)) None)
 
 abbrev pub read_x : List ℕ → Option (List ℕ)
-read_x [] = None
-read_x (a ∷ rest) = cond (a == 0x58) (Some rest) None
+read_x = read_mark 0x58
 
 abbrev pub bit : ℕ → ℕ → Bool
 bit b k = b / k % 2 == 1

@@ -1,9 +1,7 @@
 -- What the replies of the code say.
 --
 --   reply_of r         what the reply r says
---   written_result     what comes of writing a reply: its bytes, or why there are none
---   write-answer h l r the bytes of the reply r with the address bytes h and l, where its numbers fit their places; else a refusal
---   Written h l r x    the same of what one kind of reply is written by, as a relation: x is these bytes and r fits, or x is the refusal and r does not
+--   write_answer h l r the bytes of the reply r with the address bytes h and l, where its numbers fit their places; else a refusal
 --   changes_of         the changes of a queue that was read, if one was
 --   behind_entry       the bytes behind an entry of Q
 --   put_if             k with a change of the output o put into it, if its input was read
@@ -17,11 +15,11 @@
 --   marked_if          whether that of a reply that was read has one, if a reply was read
 --   marked_result      the same, where a fault says why none was
 --   received_marked    the same of a reply with its address bytes
-use Rattle.std.specs.Prelude.{◌≡◌, ℕ, Bool, false, cond, List, Some, None, Ok, Err, Option, Result, MatchResult}
+--   IsReadAs o r       a reply that was read, if one was, is r, and its queue has no overrun mark
+use Rattle.std.specs.Prelude.{◌≡◌, ℕ, Bool, false, cond, List, Some, None, Ok, Err, Option, Result}
 use Rattle.wire.specs.Fields.{Field, read_number, then}
 use Rattle.wire.specs.Kept.{Kept, put}
-use Rattle.wire.specs.Drafts.{sealed}
-use Rattle.wire.specs.declared.reply.SealedReply.{SealedReply}
+use Rattle.wire.specs.declared.list.KeptList.{KeptList}
 use Rattle.replies.specs.declared.reply.Reply.{Reply as ReplyOfCode}
 use Rattle.replies.specs.declared.reply.Reply.TheVariants.{Flags, Version, KeypadLocked, KeypadState, KeypadUnlocked, OutputLocked, FeedingInput, Status, Changes, OutputSet, OutputUnlocked, EthernetChanged, MaskSet, Login, LoggedIn, Refused}
 use Rattle.replies.specs.declared.reply.Received.{Received as ReceivedOfCode}
@@ -29,9 +27,8 @@ use Rattle.replies.specs.declared.reply.ReadFault.{ReadFault}
 use Rattle.replies.specs.declared.reply.WriteFault.{WriteFault}
 use Rattle.replies.specs.declared.reply.WriteFault.TheVariants.{NumberTooLarge}
 use Rattle.replies.specs.declared.change.Change.{Change}
-use Rattle.replies.specs.declared.change.ChangeQueue.{ChangeQueue}
 use Rattle.replies.specs.Queues.{queued, most_queued, text}
-use Rattle.replies.specs.Replies.{Reply, ack, nak, keypad_locked, keypad_unlocked, output_locked, output_set, output_unlocked, ethernet_changed, mask_set, flags, version, keypad_state, feeding_input, status, changes, login, logged_in, reply_bytes, Received, fits_reply, Fits}
+use Rattle.replies.specs.Replies.{Reply, ack, nak, keypad_locked, keypad_unlocked, output_locked, output_set, output_unlocked, ethernet_changed, mask_set, flags, version, keypad_state, feeding_input, status, changes, login, logged_in, reply_bytes, Received, fits_reply}
 
 abbrev pub reply_of : ReplyOfCode → Reply
 reply_of (Flags e m v) = ack (flags e m v)
@@ -51,17 +48,10 @@ reply_of (Login u g n) = ack (login u g (text n))
 reply_of (LoggedIn u g) = ack (logged_in u g)
 reply_of (Refused x) = nak x
 
-abbrev pub written_result : Result SealedReply WriteFault → Result (List ℕ) WriteFault
-written_result (Ok s) = Ok (sealed s)
-written_result (Err f) = Err f
-
 abbrev pub write_answer : ℕ → ℕ → Reply → Result (List ℕ) WriteFault
 write_answer h l r = cond (fits_reply r) (Ok (reply_bytes h l r)) (Err NumberTooLarge)
 
-abbrev pub Written : ℕ → ℕ → Reply → Result SealedReply WriteFault → Type 0
-Written h l r x = MatchResult x (λ s. Fits r × (sealed s ≡ reply_bytes h l r)) (λ f. (f ≡ NumberTooLarge) × (Fits r → ⊥))
-
-abbrev pub changes_of : Option ChangeQueue → Option (List Change)
+abbrev pub changes_of : Option (KeptList Change 8) → Option (List Change)
 changes_of None = None
 changes_of (Some q) = Some (queued q).items
 
@@ -88,10 +78,10 @@ reply_result (Ok r) = Ok (reply_of r)
 reply_result (Err f) = Err f
 
 abbrev pub received : Result ReceivedOfCode ReadFault → Result Received ReadFault
-received (Ok x) = Ok (record { high = x.high; low = x.low; reply = reply_of x.reply })
+received (Ok x) = Ok (record { high = x.address.high; low = x.address.low; reply = reply_of x.reply })
 received (Err f) = Err f
 
-abbrev pub queue_marked : Option ChangeQueue → Bool
+abbrev pub queue_marked : Option (KeptList Change 8) → Bool
 queue_marked None = false
 queue_marked (Some q) = (queued q).overrun
 
@@ -124,3 +114,6 @@ marked_result (Err f) = false
 abbrev pub received_marked : Result ReceivedOfCode ReadFault → Bool
 received_marked (Ok x) = marked x.reply
 received_marked (Err f) = false
+
+abbrev pub IsReadAs : Option ReplyOfCode → Option Reply → Type 0
+IsReadAs o r = (reply_if o ≡ r) × (marked_if o ≡ false)

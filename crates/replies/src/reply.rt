@@ -1,6 +1,7 @@
 // What a reply says.
 use crate::change::ChangeQueue;
 use crate::text::ShortText;
+use wire::address::AddressBytes;
 
 mod reading;
 mod writing;
@@ -72,14 +73,14 @@ pub enum Reply {
 }
 
 // Why a reply was not written.
-#[derive(Clone, Copy)]
+#[derive(Clone, Copy, PartialEq, Eq, Debug)]
 pub enum WriteFault {
     // A number has more digits than its place has.
     NumberTooLarge,
 }
 
 // Why bytes are no reply, in the order in which they are judged.
-#[derive(Clone, Copy)]
+#[derive(Clone, Copy, PartialEq, Eq, Debug)]
 pub enum ReadFault {
     // There are fewer bytes than header, address, ETX and check byte.
     TooShort,
@@ -96,7 +97,6 @@ pub enum ReadFault {
 // A reply, with the address bytes that it carries.
 #[derive(Clone, Copy)]
 pub struct Received {
-    pub high: u8,
-    pub low: u8,
+    pub address: AddressBytes,
     pub reply: Reply,
 }

@@ -1,23 +1,19 @@
 // How a reply is read.
 ghost use Rattle.std.specs.Prelude.{◌≡◌, ◌≤◌, false};
 ghost use Rattle.wire.specs.Fields.{behind, ended, past, field};
-ghost use Rattle.replies.specs.Replies.{ack, acked, read_locked, read_x, read_flags, read_keypad, read_input, read_status, read_version, read_model, read_entries, read_changes, read_login, read_logged_in, read_contents, read_letter, read_body, with_address, read_reply, OnlyWrittenRepliesAreRead};
+ghost use Rattle.replies.specs.Replies.{ack, acked, read_locked, read_flags, read_keypad, read_input, read_status, read_version, read_model, read_entries, read_changes, read_login, read_logged_in, read_contents, read_letter, read_body, read_reply, OnlyWrittenRepliesAreRead};
 ghost use Rattle.replies.specs.Queues.{queued, most_queued};
 ghost use Rattle.replies.specs.Replying.{behind_entry, entered};
-ghost use Rattle.replies.specs.Replying.{changes_of, reply_of, reply_if, reply_result, received, queue_marked, marked, marked_if, marked_result, received_marked};
+ghost use Rattle.replies.specs.Replying.{changes_of, reply_of, IsReadAs, reply_result, received, queue_marked, marked, marked_result, received_marked};
 
 use super::writing::flag_byte;
 use super::{ReadFault, Received, Reply};
 use crate::change::{Change, ChangeQueue};
 use crate::text::ShortText;
-use wire::fields::{read_colon, read_digit, read_hex, read_number};
-use wire::reply::check_byte;
-
-const ACK: u8 = 0x06;
-
-const NAK: u8 = 0x15;
-
-const ETX: u8 = 0x03;
+use wire::address::AddressBytes;
+use wire::control::ETX;
+use wire::fields::{read_colon, read_digit, read_hex, read_mark, read_number};
+use wire::reply::{Header, check_byte};
 
 // L or U.
 fn read_locked(s: &[u8]) -> Option<(bool, &[u8])>
@@ -30,68 +26,49 @@ fn read_locked(s: &[u8]) -> Option<(bool, &[u8])>
     }
 }
 
-// An X: only the rest is handed back.
-fn read_x(s: &[u8]) -> Option<&[u8]>
-    ensures { behind result ≡ read_x s.now }
-{
-    match s {
-        [b'X', rest @ ..] => Some(rest),
-        _ => None,
-    }
-}
-
 // A reply behind whose letters nothing stands.
 fn bare(reply: Reply, rest: &[u8]) -> Option<Reply>
     requires { marked reply ≡ false }
-    ensures answer { reply_if result ≡ ended (reply_of reply) rest.now }
-    ensures unmarked { marked_if result ≡ false }
+    ensures { IsReadAs result (ended (reply_of reply) rest.now) }
 {
     if rest.is_empty() { Some(reply) } else { None }
 }
 
 fn read_flags(rest: &[u8]) -> Option<Reply>
-    ensures answer { reply_if result ≡ acked (read_flags rest.now) }
-    ensures unmarked { marked_if result ≡ false }
+    ensures { IsReadAs result (acked (read_flags rest.now)) }
 {
-    match rest {
-        [b] => {
-            let b = *b;
-            let entries = b % 2 == 1;
-            let mask = b / 4 % 2 == 1;
-            let overrun = b / 8 % 2 == 1;
-            if b == flag_byte(entries, mask, overrun) {
-                Some(Reply::Flags {
-                    entries,
-                    mask,
-                    overrun,
-                })
-            } else {
-                None
-            }
-        }
-        _ => None,
+    let [byte] = *rest else {
+        return None;
+    };
+    let entries = byte % 2 == 1;
+    let mask = byte / 4 % 2 == 1;
+    let overrun = byte / 8 % 2 == 1;
+    if byte != flag_byte(entries, mask, overrun) {
+        return None;
     }
+    Some(Reply::Flags {
+        entries,
+        mask,
+        overrun,
+    })
 }
 
 fn read_keypad(rest: &[u8]) -> Option<Reply>
-    ensures answer { reply_if result ≡ acked (read_keypad rest.now) }
-    ensures unmarked { marked_if result ≡ false }
+    ensures { IsReadAs result (acked (read_keypad rest.now)) }
 {
     let (locked, end) = read_locked(rest)?;
     bare(Reply::KeypadState { locked }, end)
 }
 
 fn read_input(rest: &[u8]) -> Option<Reply>
-    ensures answer { reply_if result ≡ acked (read_input rest.now) }
-    ensures unmarked { marked_if result ≡ false }
+    ensures { IsReadAs result (acked (read_input rest.now)) }
 {
     let (input, end) = read_number(rest)?;
     bare(Reply::FeedingInput { input }, end)
 }
 
 fn read_status(rest: &[u8]) -> Option<Reply>
-    ensures answer { reply_if result ≡ acked (read_status rest.now) }
-    ensures unmarked { marked_if result ≡ false }
+    ensures { IsReadAs result (acked (read_status rest.now)) }
 {
     let (input, rest) = read_number(rest)?;
     let (locked, rest) = read_locked(rest)?;
@@ -107,27 +84,24 @@ fn read_status(rest: &[u8]) -> Option<Reply>
 }
 
 fn read_version(rest: &[u8]) -> Option<Reply>
-    ensures answer { reply_if result ≡ acked (read_version rest.now) }
-    ensures unmarked { marked_if result ≡ false }
+    ensures { IsReadAs result (acked (read_version rest.now)) }
 {
     let (inputs, rest) = read_number(rest)?;
-    let (outputs, end) = read_number(read_x(rest)?)?;
+    let (outputs, end) = read_number(read_mark(rest, b'X')?)?;
     bare(Reply::Version { inputs, outputs }, end)
 }
 
 fn read_login(rest: &[u8]) -> Option<Reply>
-    ensures answer { reply_if result ≡ acked (read_login rest.now) }
-    ensures unmarked { marked_if result ≡ false }
+    ensures { IsReadAs result (acked (read_login rest.now)) }
 {
     let (user, rest) = read_digit(read_colon(rest)?)?;
     let (group, rest) = read_digit(read_colon(rest)?)?;
-    let name = ShortText::of(read_colon(rest)?)?;
+    let name = ShortText::try_from(read_colon(rest)?).ok()?;
     Some(Reply::Login { user, group, name })
 }
 
 fn read_logged_in(rest: &[u8]) -> Option<Reply>
-    ensures answer { reply_if result ≡ acked (read_logged_in rest.now) }
-    ensures unmarked { marked_if result ≡ false }
+    ensures { IsReadAs result (acked (read_logged_in rest.now)) }
 {
     let (user, rest) = read_digit(read_colon(rest)?)?;
     let (group, end) = read_digit(read_colon(rest)?)?;
@@ -154,17 +128,13 @@ fn read_entries(n: u8, s: &[u8]) -> Option<ChangeQueue>
     let mut queue = ChangeQueue::new();
     let mut rest = s;
     for _read in 0..n {
-        let Some(more) = read_entry(&mut queue, rest) else {
-            return None;
-        };
-        rest = more;
+        rest = read_entry(&mut queue, rest)?;
     }
     if rest.is_empty() { Some(queue) } else { None }
 }
 
 fn read_changes(rest: &[u8]) -> Option<Reply>
-    ensures answer { reply_if result ≡ acked (read_changes rest.now) }
-    ensures unmarked { marked_if result ≡ false }
+    ensures { IsReadAs result (acked (read_changes rest.now)) }
 {
     let (n, entries) = read_digit(rest)?;
     if n > 8 {
@@ -182,15 +152,13 @@ fn read_model(s: &[u8]) -> Option<&[u8]>
 }
 
 fn read_model_and_size(rest: &[u8]) -> Option<Reply>
-    ensures answer { reply_if result ≡ acked (past (read_model rest.now) read_version) }
-    ensures unmarked { marked_if result ≡ false }
+    ensures { IsReadAs result (acked (past (read_model rest.now) read_version)) }
 {
     read_version(read_model(rest)?)
 }
 
 fn read_contents(body: &[u8]) -> Option<Reply>
-    ensures answer { reply_if result ≡ read_contents body.now }
-    ensures unmarked { marked_if result ≡ false }
+    ensures { IsReadAs result (read_contents body.now) }
 {
     match body {
         [b'K', b'L', rest @ ..] => bare(Reply::KeypadLocked, rest),
@@ -213,34 +181,24 @@ fn read_contents(body: &[u8]) -> Option<Reply>
 }
 
 fn read_letter(body: &[u8]) -> Option<Reply>
-    ensures answer { reply_if result ≡ read_letter body.now }
-    ensures unmarked { marked_if result ≡ false }
+    ensures { IsReadAs result (read_letter body.now) }
 {
-    match body {
-        [letter] => Some(Reply::Refused { letter: *letter }),
-        _ => None,
-    }
+    let [letter] = *body else {
+        return None;
+    };
+    Some(Reply::Refused { letter })
 }
 
 fn read_body(header: u8, body: &[u8]) -> Result<Reply, ReadFault>
     ensures answer { reply_result result ≡ read_body header body.now }
     ensures unmarked { marked_result result ≡ false }
 {
-    if header == ACK {
-        read_contents(body).ok_or(ReadFault::NoContents)
-    } else if header == NAK {
-        read_letter(body).ok_or(ReadFault::NoContents)
-    } else {
-        Err(ReadFault::NoHeader)
-    }
-}
-
-fn with_address(high: u8, low: u8, reply: Result<Reply, ReadFault>) -> Result<Received, ReadFault>
-    ensures answer { received result ≡ with_address high low (reply_result reply) }
-    ensures unmarked { received_marked result ≡ marked_result reply }
-{
-    let reply = reply?;
-    Ok(Received { high, low, reply })
+    let header = Header::try_from(header).map_err(|_| ReadFault::NoHeader)?;
+    let reply = match header {
+        Header::Ack => read_contents(body),
+        Header::Nak => read_letter(body),
+    };
+    reply.ok_or(ReadFault::NoContents)
 }
 
 // Reads a whole reply, from its header to its check byte.
@@ -249,25 +207,19 @@ pub fn read_reply(bytes: &[u8]) -> Result<Received, ReadFault>
     ensures unmarked { received_marked result ≡ false }
     ensures law { OnlyWrittenRepliesAreRead bytes.now }
 {
-    read_any(bytes)
-}
-
-fn read_any(bytes: &[u8]) -> Result<Received, ReadFault>
-    ensures answer { received result ≡ read_reply bytes.now }
-    ensures unmarked { received_marked result ≡ false }
-{
-    let [header, high, low, rest @ ..] = bytes else {
-        return Err(ReadFault::TooShort);
-    };
-    let [body @ .., etx, check] = rest else {
+    let [header, high, low, body @ .., etx, check] = bytes else {
         return Err(ReadFault::TooShort);
     };
     if *etx != ETX {
         return Err(ReadFault::NoEtx);
     }
-    if *check != check_byte(&bytes[0..bytes.len() - 1]) {
+    if *check != check_byte(&bytes[..bytes.len() - 1]) {
         return Err(ReadFault::WrongCheckByte);
     }
-    let reply = read_body(*header, body);
-    with_address(*high, *low, reply)
+    let address = AddressBytes {
+        high: *high,
+        low: *low,
+    };
+    let reply = read_body(*header, body)?;
+    Ok(Received { address, reply })
 }

@@ -1,38 +1,42 @@
 // The calls of a short text.
-ghost use Rattle.std.specs.Prelude.{◌≡◌, ◌≤◌, [], length};
+ghost use Rattle.std.specs.Prelude.{◌≡◌, ◌≤◌, [], length, Some, None, MatchResult};
 ghost use Rattle.wire.specs.Fields.{short_text, most_text};
-ghost use Rattle.replies.specs.Queues.{text, text_if};
+ghost use Rattle.replies.specs.Queues.{text};
 
-use super::ShortText;
-use wire::list::keep_all;
+use super::{ShortText, TooLong};
+use wire::list::KeptList;
+
+// No bytes.
+impl Default for ShortText {
+    ghost is_default = { λ t. text t ≡ [] };
+
+    fn default() -> Self {
+        ShortText {
+            bytes: KeptList::new(),
+        }
+    }
+}
+
+// A copy of all of the bytes.
+impl TryFrom<&[u8]> for ShortText {
+    type Error = TooLong;
+
+    ghost try_from_gives = { λ bytes r. MatchResult r (λ t. Some (text t) ≡ short_text bytes.now) (λ _. None ≡ short_text bytes.now) };
+
+    fn try_from(bytes: &[u8]) -> Result<Self, TooLong> {
+        let bytes = KeptList::of(bytes);
+        if bytes.is_overrun() {
+            return Err(TooLong);
+        }
+        Ok(ShortText { bytes })
+    }
+}
 
 impl ShortText {
-    // No bytes.
-    pub fn empty() -> ShortText
-        ensures { text result ≡ [] }
-    {
-        ShortText {
-            cells: [0; 10],
-            used: 0,
-        }
-    }
-
-    // A copy of `bytes`; nothing where there are more than ten.
-    pub fn of(bytes: &[u8]) -> Option<ShortText>
-        ensures { text_if result ≡ short_text bytes.now }
-    {
-        let mut cells = [0; 10];
-        let (used, overrun) = keep_all(&mut cells, bytes);
-        if overrun {
-            return None;
-        }
-        Some(ShortText { cells, used })
-    }
-
     pub fn as_slice(&self) -> &[u8]
         ensures value { result.now ≡ text self.now }
         ensures few { length result.now ≤ most_text }
     {
-        &self.cells[0..self.used]
+        self.bytes.as_slice()
     }
 }

@@ -18,25 +18,25 @@ loop-read-preserved c =
     let xs = c.loop-read.rest.now in
     let one_less : n - i ≡ suc (n - (i + 1)) = omega arith in
     let few : length k.items < 8 = omega (arith, c.loop-read.invariant.1, c.requires) in
-    let more = entry_read k (n - (i + 1)) xs c.in-Some.more.now few c.in-Some.ensures.answer in
+    let more = entry_read k (n - (i + 1)) xs c.in_ok-rest.rest.now few c.in_ok-rest.ensures.answer in
     let after = c.read_entry.ensures.after in (
-      ap (λ (j : Kept Change). prefixed j.items (read_entries (n - (i + 1)) c.in-Some.more.now)) after
+      ap (λ (j : Kept Change). prefixed j.items (read_entries (n - (i + 1)) c.in_ok-rest.rest.now)) after
           ∙ sym more.left ∙ ap (λ (m : ℕ). prefixed k.items (read_entries m xs)) (sym one_less) ∙ c.loop-read.invariant.0,
       ap (λ (j : Kept Change). length j.items) after ∙ more.longer ∙ ap (λ (m : ℕ). m + 1) c.loop-read.invariant.1,
       ap (λ (j : Kept Change). j.overrun) after ∙ more.mark ∙ c.loop-read.invariant.2,
     )
 
-pub returns-in_default : goal.returns-in_default
-returns-in_default c =
+pub returns-in_err-rest : goal.returns-in_err-rest
+returns-in_err-rest c =
     let n = c.args.n in
     let i = c.loop-read._read in
     let k = queued c.loop-read.queue in
     let xs = c.loop-read.rest.now in
     let one_less : n - i ≡ suc (n - (i + 1)) = omega arith in
-    record {
-      answer = sym (no_entry k.items (n - (i + 1)) xs c.in_default.ensures.answer) ∙ ap (λ (m : ℕ). prefixed k.items (read_entries m xs)) (sym one_less) ∙ c.loop-read.invariant.0;
+    rw c.from_residual.ensures (record {
+      answer = sym (no_entry k.items (n - (i + 1)) xs c.in_err-rest.ensures.answer) ∙ ap (λ (m : ℕ). prefixed k.items (read_entries m xs)) (sym one_less) ∙ c.loop-read.invariant.0;
       unmarked = refl;
-    }
+    })
 
 pub returns-then-is_empty : goal.returns-then-is_empty
 returns-then-is_empty c = record {
