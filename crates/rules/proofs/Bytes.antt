@@ -37,7 +37,7 @@ abbrev pub Emptied : List Event → Event → State → Type 0
 Emptied h e t = (p : Port) → accepted_at p h e ≡ the_queue → (port_at t p).queue.items ≡ []
 
 pub nothing_is_no_queue : nothing ≡ the_queue → ⊥
-nothing_is_no_queue e = let z : ◌≡◌ {A = ℕ} 0 1 = cc in omega arith
+nothing_is_no_queue e = cc
 
 -- the receiver goes on
 pub moved_agrees : (f₀ : ℕ → ℕ) (s : State) (rs : PerPort Receiver) (ts : PerPort Table) (xs : List Accepted) (p : Port) (r : Receiver) → Agrees f₀ s rs ts xs
@@ -119,11 +119,11 @@ emptied_by s Two read_queue e = refl
 emptied_by s Three read_queue e = refl
 emptied_by s p lock_ethernet e = absurd (nothing_is_no_queue e)
 emptied_by s p ask_login e = absurd (nothing_is_no_queue e)
-emptied_by s p (lock_output o i) e = absurd (let z : ◌≡◌ {A = ℕ} 0 1 = cc in omega arith)
-emptied_by s p (set_output o i) e = absurd (let z : ◌≡◌ {A = ℕ} 0 1 = cc in omega arith)
-emptied_by s p (unlock_output o i) e = absurd (let z : ◌≡◌ {A = ℕ} 0 1 = cc in omega arith)
-emptied_by s p (ask_input o) e = absurd (let z : ◌≡◌ {A = ℕ} 0 1 = cc in omega arith)
-emptied_by s p (ask_status o) e = absurd (let z : ◌≡◌ {A = ℕ} 0 1 = cc in omega arith)
+emptied_by s p (lock_output o i) e = absurd cc
+emptied_by s p (set_output o i) e = absurd cc
+emptied_by s p (unlock_output o i) e = absurd cc
+emptied_by s p (ask_input o) e = absurd cc
+emptied_by s p (ask_status o) e = absurd cc
 emptied_by s p (unlock_ethernet w) e = absurd (nothing_is_no_queue e)
 emptied_by s p (set_password w) e = absurd (nothing_is_no_queue e)
 emptied_by s p (set_mask g b o) e = absurd (nothing_is_no_queue e)

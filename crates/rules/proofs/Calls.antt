@@ -1,5 +1,5 @@
 -- Each call keeps the state in agreement with what is known from outside.
-use Rattle.std.proofs.Common.{◌≡◌, ℕ, Bool, true, false, cond, not, eqb, ltb, List, [], ◌∷◌, length, Some, None, Ok, Err, Option, Result, sym, refl, ap, ◌∙◌, subst, ⊎_elim, arith}
+use Rattle.std.proofs.Common.{◌≡◌, ℕ, Bool, true, false, cond, not, eqb, ltb, List, [], ◌∷◌, length, Some, None, Ok, Err, Option, Result, sym, refl, ap, ◌∙◌, subst, ⊎_elim}
 use mathlib.Core.Path.{subst₃}
 use Rattle.std.proofs.lemmas.Bool.{eqb-true, not-true}
 use Rattle.wire.specs.Kept.{Kept}
@@ -46,10 +46,10 @@ pub record Keeps (a : ℕ) (on : Bool) (m : Meaning) (s : State) (h : List Event
   pub unlocked : s.keypad ≡ true → is_panel c ≡ true → was_accepted o.answer.result ≡ false
 
 no_such : {X : Type 0} (d : Command) → ◌≡◌ {A = Option Command} None (Some d) → X
-no_such d e = absurd (let z : ◌≡◌ {A = ℕ} 0 1 = cc in omega arith)
+no_such d e = absurd cc
 
 no_panel : {X : Type 0} → false ≡ true → X
-no_panel e = absurd (let z : ◌≡◌ {A = ℕ} 0 1 = cc in omega arith)
+no_panel e = absurd cc
 
 agrees_as : (f₀ : ℕ → ℕ) (s : State) {rs ks : PerPort Receiver} {ts us : PerPort Table} {xs ys : List Accepted} → ks ≡ rs → us ≡ ts → ys ≡ xs → Agrees f₀ s rs ts xs → Agrees f₀ s ks us ys
 agrees_as f₀ s p q r v = subst₃ (λ (x : PerPort Receiver) (y : PerPort Table) (z : List Accepted). Agrees f₀ s x y z) (sym p) (sym q) (sym r) v
@@ -147,11 +147,11 @@ port_is n p e = by (eqb n 1) (eqb n 2) (eqb n 3) refl refl refl e
     by true b c x y z e = eqb-true n 1 x ∙ ap number_of (let q : One ≡ p = cc in q)
     by false true c x y z e = eqb-true n 2 y ∙ ap number_of (let q : Two ≡ p = cc in q)
     by false false true x y z e = eqb-true n 3 z ∙ ap number_of (let q : Three ≡ p = cc in q)
-    by false false false x y z e = absurd (let z : ◌≡◌ {A = ℕ} 0 1 = cc in omega arith)
+    by false false false x y z e = absurd cc
 
 pub first_one : {F : Type 0} (a : Option F) (fs : List (Option F)) → first_of (a ∷ fs) ≡ None → (a ≡ None) × (first_of fs ≡ None)
 first_one None fs e = (refl, e)
-first_one (Some x) fs e = absurd (let z : ◌≡◌ {A = ℕ} 0 1 = cc in omega arith)
+first_one (Some x) fs e = absurd cc
 
 module _ (a : ℕ) (on : Bool) (m : Meaning) (s : State) (h : List Event) (v : AgreesWith m.feeding s h) (w : Stands a on m s h) where
   stays : (c : Call) (r : Refusal) → Stands a on m s (record { call = c; answer = record { result = Err r; reply = [] } } ∷ h)

@@ -1,5 +1,5 @@
 -- An accepted command keeps the state in agreement with what is known from outside.
-use Rattle.std.proofs.Common.{◌≡◌, ℕ, Bool, true, false, cond, not, ◌&&◌, eqb, List, [], ◌∷◌, Some, None, Option, refl, subst, arith}
+use Rattle.std.proofs.Common.{◌≡◌, ℕ, Bool, true, false, cond, not, ◌&&◌, eqb, List, [], ◌∷◌, Some, None, Option, refl, subst}
 use Rattle.std.proofs.lemmas.Bool.{and_parts, not-true}
 use Rattle.packets.specs.Receiver.{Receiver}
 use Rattle.packets.specs.Commands.{Command, ask_flags, ask_version, lock_keypad, show_keypad, unlock_keypad, read_queue, lock_ethernet, ask_login, lock_output, set_output, unlock_output, ask_input, ask_status, unlock_ethernet, set_password, set_mask, log_in}
@@ -17,7 +17,7 @@ use Rattle.rules.proofs.Switchings.{Agrees, all_each, all_set, both_set, unchang
 
 pub first_none : {X : Type 0} (b : Bool) (f : X) (fs : List (Option X)) → first_of (cond b None (Some f) ∷ fs) ≡ None → (b ≡ true) × (first_of fs ≡ None)
 first_none true f fs e = (refl, e)
-first_none false f fs e = absurd (let z : ◌≡◌ {A = ℕ} 0 1 = cc in omega arith)
+first_none false f fs e = absurd cc
 
 -- five checks were passed
 pub five_passed : {X : Type 0} (a b c d g : Bool) (f₁ f₂ f₃ f₄ f₅ : X) → first_of (cond a None (Some f₁) ∷ cond b None (Some f₂) ∷ cond c None (Some f₃) ∷ cond d None (Some f₄) ∷ cond g None (Some f₅) ∷ []) ≡ None

@@ -145,8 +145,8 @@ tail_of e = cc
 at_event : (a : ℕ) (on : Bool) (m : Meaning) (h : List Event) (s : State) → Reached a on m h s → (cs : List Call) (before later : List Event) (e : Event)
     → transcript s cs ≡ before ++ e ∷ later → LawsHold a on m (reverse_aux before h) e (state_after s (before ++ e ∷ []))
 unfolding along ending
-at_event a on m h s r [] [] later e t = absurd (let z : ◌≡◌ {A = ℕ} 0 1 = cc in omega arith)
-at_event a on m h s r [] (b ∷ before) later e t = absurd (let z : ◌≡◌ {A = ℕ} 0 1 = cc in omega arith)
+at_event a on m h s r [] [] later e t = absurd cc
+at_event a on m h s r [] (b ∷ before) later e t = absurd cc
 at_event a on m h s r (c ∷ cs) [] later e t = subst (λ (x : Event). LawsHold a on m h x (next s x.call)) (head_of t) (laws_after s c a on m h r)
 at_event a on m h s r (c ∷ cs) (b ∷ before) later e t =
     subst (λ (x : Event). LawsHold a on m (reverse_aux before (x ∷ h)) e (state_after (next s x.call) (before ++ e ∷ []))) (head_of t)
@@ -167,7 +167,7 @@ at_moment : (a : ℕ) (on : Bool) (m : Meaning) (h : List Event) (s : State) →
     → transcript s cs ≡ before ++ later → Reached a on m (reverse_aux before h) (state_after s before)
 unfolding along ending
 at_moment a on m h s r cs [] later t = r
-at_moment a on m h s r [] (b ∷ before) later t = absurd (let z : ◌≡◌ {A = ℕ} 0 1 = cc in omega arith)
+at_moment a on m h s r [] (b ∷ before) later t = absurd cc
 at_moment a on m h s r (c ∷ cs) (b ∷ before) later t =
     subst (λ (x : Event). Reached a on m (reverse_aux before (x ∷ h)) (state_after (next s x.call) before)) (head_of t)
     (at_moment a on m (event_at s c ∷ h) (next s c) (laws_after s c a on m h r).reached cs before later (tail_of t))

@@ -40,14 +40,14 @@ right_entered f t cs x r short o i e =
 cleared_by : (f : ℕ → ℕ) (t : Table) (cs : List Change) (b : Bool) → leb (length cs) 7 ≡ b → Right f t cs → Right f (cond b (entered_all t cs) unknown) []
 unfolding Right
 cleared_by f t cs true e r short o i g = r (leb-true (length cs) 7 e) o i g
-cleared_by f t cs false e r short o i g = absurd (let z : ◌≡◌ {A = ℕ} 0 1 = cc in omega arith)
+cleared_by f t cs false e r short o i g = absurd cc
 
 pub right_emptied : (f : ℕ → ℕ) (t : Table) (cs : List Change) → Right f t cs → Right f (with_queue_told t (the_changes_are cs)) []
 right_emptied f t cs r = cleared_by f t cs (leb (length cs) 7) refl r
 
 pub none_known : (f : ℕ → ℕ) → Right f unknown []
 unfolding Right
-none_known f short o i e = absurd (let z : ◌≡◌ {A = ℕ} 0 1 = cc in omega arith)
+none_known f short o i e = absurd cc
 
 -- f is what fed the outputs, and g what feeds them now: the same but at x
 abbrev pub Apart : (ℕ → ℕ) → (ℕ → ℕ) → ℕ → Type 0

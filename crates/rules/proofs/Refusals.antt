@@ -1,5 +1,5 @@
 -- A refused call changes nothing, and a byte that brings no ACK changes the receiver of its port alone.
-use Rattle.std.proofs.Common.{◌≡◌, ℕ, Bool, true, false, cond, ltb, [], Some, None, Ok, Err, Option, Result, refl, ap, ◌∙◌, subst, arith}
+use Rattle.std.proofs.Common.{◌≡◌, ℕ, Bool, true, false, cond, ltb, [], Some, None, Ok, Err, Option, Result, refl, ap, ◌∙◌, subst}
 use Rattle.packets.specs.Address.{Parts, parts, matches}
 use Rattle.packets.specs.Commands.{Command, command_in}
 use Rattle.packets.specs.Receiver.{Receiver, Packet, hear}
@@ -24,7 +24,7 @@ abbrev Unchanged : State → Outcome → Refusal → Type 0
 Unchanged s o r = o.answer.result ≡ Err r → (o.next ≡ s) × (o.answer.reply ≡ [])
 
 taken : {X : Type 0} (n : ℕ) (r : Refusal) → ◌≡◌ {A = Result ℕ Refusal} (Ok n) (Err r) → X
-taken n r e = absurd (let z : ◌≡◌ {A = ℕ} 0 1 = cc in omega arith)
+taken n r e = absurd cc
 
 -- a packet is never refused by number
 matching_taken : (m : Bool) (s t : State) (p : Port) (k : Packet) (a : Parts) (r : Refusal) → Unchanged t (if_matching m s p k a) r
@@ -75,7 +75,7 @@ abbrev Stays : State → Outcome → Type 0
 Stays s o = begins_with_ack o.answer.reply ≡ false → o.next ≡ s
 
 acknowledged : {X : Type 0} → true ≡ false → X
-acknowledged e = absurd (let z : ◌≡◌ {A = ℕ} 0 1 = cc in omega arith)
+acknowledged e = absurd cc
 
 command_stays : (h l : ℕ) (s : State) (p : Port) (c : Command) (f : Option CommandFault) → Stays s (judged_outcome h l (unless_fault s p c f))
 command_stays h l s p c None e = acknowledged e

@@ -1,6 +1,6 @@
 -- What is accepted is what no cause refuses; so only those with a right are let do what needs one.
-use Rattle.std.proofs.Common.{◌≡◌, ℕ, Bool, true, false, cond, not, ◌&&◌, ◌||◌, List, [], ◌∷◌, Some, None, Option, sym, refl, ap, ◌∙◌, subst, arith}
-use Rattle.std.proofs.lemmas.Bool.{eqb-true}
+use Rattle.std.proofs.Common.{◌≡◌, ℕ, Bool, true, false, cond, not, ◌&&◌, ◌||◌, List, [], ◌∷◌, Some, None, Option, sym, refl, ap, ◌∙◌, subst}
+use Rattle.std.proofs.lemmas.Bool.{eqb-true, false≢true}
 use Rattle.wire.specs.Fields.{same_bytes}
 use Rattle.packets.specs.Receiver.{Receiver}
 use Rattle.packets.specs.Commands.{Command, ask_flags, ask_version, lock_keypad, show_keypad, unlock_keypad, read_queue, lock_ethernet, ask_login, lock_output, set_output, unlock_output, ask_input, ask_status, unlock_ethernet, set_password, set_mask, log_in}
@@ -30,12 +30,12 @@ pub record Granted (s : State) (o : ℕ) (login : Option ℕ) : Type 0 where
   pub bit_set : s.masks o (group_of user) ≡ true
 
 by_login : (s : State) (o : ℕ) (login : Option ℕ) → group_bit s o login ≡ true → Granted s o login
-by_login s o None e = absurd (let z : ◌≡◌ {A = ℕ} 0 1 = cc in omega arith)
+by_login s o None e = absurd cc
 by_login s o (Some u) e = record { user = u; logged_in = refl; bit_set = e }
 
 with_access : (s : State) (p : Port) (o : ℕ) (on : Bool) → on ≡ true → (not on || group_bit s o (port_at s p).login) ≡ true → Granted s o (port_at s p).login
 with_access s p o true t e = by_login s o (port_at s p).login e
-with_access s p o false t e = absurd (let z : ◌≡◌ {A = ℕ} 0 1 = cc in omega arith)
+with_access s p o false t e = absurd cc
 
 -- the third of several checks was passed
 third : {X : Type 0} (a b c : Bool) (f₁ f₂ f₃ : X) (fs : List (Option X)) → first_of (cond a None (Some f₁) ∷ cond b None (Some f₂) ∷ cond c None (Some f₃) ∷ fs) ≡ None → c ≡ true
@@ -49,10 +49,10 @@ second a b f₁ f₂ fs e = (first_none b f₂ fs (first_none a f₁ (cond b Non
 
 passed : {X : Type 0} (b : Bool) (f : X) → cond b None (Some f) ≡ None → b ≡ true
 passed true f e = refl
-passed false f e = absurd (let z : ◌≡◌ {A = ℕ} 0 1 = cc in omega arith)
+passed false f e = absurd cc
 
 no_output : {X : Type 0} (o : ℕ) → ◌≡◌ {A = Option ℕ} None (Some o) → X
-no_output o e = absurd (let z : ◌≡◌ {A = ℕ} 0 1 = cc in omega arith)
+no_output o e = absurd cc
 
 module _ (s : State) (p : Port) where
   pub switching_granted : (c : Command) (o : ℕ) → s.access ≡ true → fault_of s p c ≡ None → switched_output c ≡ Some o → Granted s o (port_at s p).login
@@ -81,7 +81,7 @@ module _ (s : State) (p : Port) where
   switching_granted (log_in n w) o on f e = no_output o e
 
   user_one : (login : Option ℕ) → is_logged_in_as 1 login ≡ true → login ≡ Some 1
-  user_one None e = absurd (let z : ◌≡◌ {A = ℕ} 0 1 = cc in omega arith)
+  user_one None e = absurd cc
   user_one (Some u) e = ap (λ (x : ℕ). Some x) (sym (eqb-true 1 u e))
 
   pub masks_granted : (g v o : ℕ) → fault_of s p (set_mask g v o) ≡ None → (port_at s p).login ≡ Some 1
@@ -95,7 +95,7 @@ module _ (s : State) (p : Port) where
 -- under the Ethernet lock nothing but ELD passes at port 2
 module _ (s : State) (locked : s.ethernet ≡ true) where
   not_free : {X : Type 0} → not (s.ethernet && true) ≡ true → X
-  not_free e = absurd (let z : false ≡ true = sym (ap (λ (b : Bool). not (b && true)) locked) ∙ e in let y : ◌≡◌ {A = ℕ} 0 1 = cc in omega arith)
+  not_free e = absurd (false≢true (sym (ap (λ (b : Bool). not (b && true)) locked) ∙ e))
 
   alone : {X : Type 0} (c : Command) → cond (not (s.ethernet && true)) None (Some (EthernetLocked (first_letter c))) ≡ None → X
   alone c e = not_free (passed (not (s.ethernet && true)) (EthernetLocked (first_letter c)) e)

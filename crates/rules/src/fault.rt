@@ -25,7 +25,7 @@ pub enum CommandFault {
 }
 
 impl CommandFault {
-    // The letter that is sent back.
+    // The letter that is sent back. A method: two causes share a letter, so `From` would be no plainer, and could not be turned round.
     pub fn letter(self) -> u8
         ensures { result ≡ letter self }
     {

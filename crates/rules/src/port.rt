@@ -1,43 +1,46 @@
 // The three ports, and one value for each of them.
 ghost use Rattle.rules.specs.PerPort.{port_of, number_of, at, set_at};
 ghost use Rattle.rules.specs.contracts.port.PerPort.{the_row};
+ghost use Rattle.rules.specs.declared.refusal.Refusal.TheVariants.{NoSuchPort};
 ghost use Rattle.std.specs.Borrow.{follows, sem};
-ghost use Rattle.std.specs.Prelude.{◌≡◌};
+ghost use Rattle.std.specs.Prelude.{◌≡◌, ok_or};
+
+use crate::refusal::Refusal;
 
 // Ports 1 and 3 are serial, port 2 is Ethernet.
-#[derive(Clone, Copy)]
+#[derive(Clone, Copy, PartialEq, Eq, Debug)]
 pub enum Port {
-    One,
-    Two,
-    Three,
+    One = 1,
+    Two = 2,
+    Three = 3,
 }
 
-impl Port {
-    // The port that a number names: 1, 2 and 3 name one.
-    pub fn from_number(number: u8) -> Option<Port>
-        ensures { result ≡ port_of number }
-    {
+// The port that a number names: 1, 2 and 3 name one.
+impl TryFrom<u8> for Port {
+    type Error = Refusal;
+
+    ghost try_from_gives = { λ number r. r ≡ ok_or (port_of number) NoSuchPort };
+
+    fn try_from(number: u8) -> Result<Port, Refusal> {
         match number {
-            1 => Some(Port::One),
-            2 => Some(Port::Two),
-            3 => Some(Port::Three),
-            _ => None,
-        }
-    }
-
-    // The number of the port.
-    pub fn number(self) -> u8
-        ensures { result ≡ number_of self }
-    {
-        match self {
-            Port::One => 1,
-            Port::Two => 2,
-            Port::Three => 3,
+            1 => Ok(Port::One),
+            2 => Ok(Port::Two),
+            3 => Ok(Port::Three),
+            _ => Err(Refusal::NoSuchPort),
         }
     }
 }
 
-// One value for each port.
+// The number of the port.
+impl From<Port> for u8 {
+    ghost from_gives = { λ port number. number ≡ number_of port };
+
+    fn from(port: Port) -> u8 {
+        port as u8
+    }
+}
+
+// One value for each port. Three fields and no array, which would be no plainer: a name needs no index, and each value is lent by its own.
 #[derive(Drop)]
 pub struct PerPort<R> {
     pub one: R,

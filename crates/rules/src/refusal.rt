@@ -3,24 +3,24 @@ ghost use Rattle.rules.specs.Calls.{refusal_number};
 ghost use Rattle.std.specs.Prelude.{◌≡◌};
 
 // The causes, in the order in which they are looked for.
-#[derive(Clone, Copy)]
+#[derive(Clone, Copy, PartialEq, Eq, Debug)]
 pub enum Refusal {
     // A byte call brought a reply buffer of fewer than 64 bytes.
-    ShortBuffer,
+    ShortBuffer = 1,
     // The port is none of 1 to 3.
-    NoSuchPort,
+    NoSuchPort = 2,
     // The output is outside the count.
-    NoSuchOutput,
+    NoSuchOutput = 3,
     // The input is outside the count.
-    NoSuchInput,
+    NoSuchInput = 4,
     // The keypad is locked.
-    KeypadLocked,
+    KeypadLocked = 5,
     // The output is locked.
-    OutputLocked,
+    OutputLocked = 6,
     // The output cannot be put on the input.
-    CannotBeMade,
+    CannotBeMade = 7,
     // The number, the name or the password of a user is not allowed.
-    WrongUser,
+    WrongUser = 8,
 }
 
 impl Refusal {
@@ -28,15 +28,6 @@ impl Refusal {
     pub fn number(self) -> u8
         ensures { result ≡ refusal_number self }
     {
-        match self {
-            Refusal::ShortBuffer => 1,
-            Refusal::NoSuchPort => 2,
-            Refusal::NoSuchOutput => 3,
-            Refusal::NoSuchInput => 4,
-            Refusal::KeypadLocked => 5,
-            Refusal::OutputLocked => 6,
-            Refusal::CannotBeMade => 7,
-            Refusal::WrongUser => 8,
-        }
+        self as u8
     }
 }
