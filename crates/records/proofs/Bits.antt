@@ -1,26 +1,23 @@
 -- The bits of a mask: all set, read, summed, and one of them flipped; and those that no mask has.
-use Rattle.std.proofs.Common.{◌≡◌, ℕ, zero, suc, ◌-◌, ◌*◌, ◌/◌, ◌%◌, ◌^◌, ◌<◌, Bool, true, false, cond, not, ◌&&◌, eqb, List, length, get_or, set, sym, refl, ap, ◌∙◌, le_of_suc-le-suc, not-suc-le-zero, arith}
+use Rattle.std.proofs.Common.{◌≡◌, ℕ, zero, suc, ◌-◌, ◌*◌, ◌/◌, ◌%◌, ◌^◌, ◌<◌, Bool, true, false, cond, not, ◌&&◌, eqb, sym, refl, ap, ◌∙◌, le_of_suc-le-suc, not-suc-le-zero, arith}
 use mathlib.Core.Bool.{beq}
-use lib.Bits.{bit_and, bit_xor}
+use lib.Bits.{bit_xor}
 use Rattle.std.proofs.lemmas.Bool.Decides.{nat_tests}
-use Rattle.std.proofs.lemmas.Bool.{true≢false, false≢true, eqb-true, eq-eqb, cond-true, cond-false}
-use Rattle.std.proofs.lemmas.Nat.{and_mask, xor_shr, xor_mod, mod_below, one_shl}
+use Rattle.std.proofs.lemmas.Bool.{true≢false, eqb-true, eq-eqb, cond-true, cond-false}
+use Rattle.std.proofs.lemmas.Nat.{xor_shr, xor_mod, mod_below, one_shl}
 use Rattle.fabric.specs.Meaning.{within}
 use Rattle.fabric.proofs.Relays.{digit}
 use Rattle.rules.specs.Switching.{same}
-use Rattle.records.specs.Tables.{at_number, put_bit, put_bit_within, is_other_within}
+use Rattle.records.specs.Tables.{put_bit, put_bit_within, put_within, is_other_within}
 use Rattle.rules.specs.State.{byte_of}
 use Rattle.records.specs.Records.{mask_bit}
-use Rattle.records.proofs.Cells.{at_inside, at_outside, at_written}
+use Rattle.records.proofs.Cells.{put_inside}
 use Rattle.records.proofs.Below.{each_below}
 
 -- ---- one mask
 
 pub all_set : (g : ℕ) → mask_bit 255 g ≡ true
 all_set g = grind (arith, nat_tests, each_below (λ k. eqb (255 / 2 ^ k % 2) 1) 8 refl (g - 1))
-
-pub bit_read : (b g : ℕ) → within g 8 ≡ true → eqb (bit_and (b / 2 ^ (g - 1)) 1) 1 ≡ mask_bit b g
-bit_read b g inside = rw (inside, and_mask (b / 2 ^ (g - 1)) 1)
 
 -- what holds of 0 and of 1 holds of a number's last digit
 last_digit : (P : ℕ → Type 0) → P 0 → P 1 → (x : ℕ) → P (x % 2)
@@ -73,17 +70,11 @@ module _ (b g : ℕ) (inside : within g 8 ≡ true) where
 
 -- ---- the masks of the outputs
 
--- a flag that is the same as another, and one that is not
-pub agree : (a v : Bool) → beq a v ≡ true → (v ≡ a) × (false ≡ not (same v a))
-agree true true e = (refl, refl)
-agree true false e = absurd (false≢true e)
-agree false true e = absurd (false≢true e)
-agree false false e = (refl, refl)
-
-pub differ : (a v : Bool) → beq a v ≡ false → (v ≡ not a) × (true ≡ not (same v a))
+-- a flag that is not the same as another
+pub differ : (a v : Bool) → beq a v ≡ false → v ≡ not a
 differ true true e = absurd (true≢false e)
-differ true false e = (refl, refl)
-differ false true e = (refl, refl)
+differ true false e = refl
+differ false true e = refl
 differ false false e = absurd (true≢false e)
 
 -- a bit by numbers that a mask has, and by others
@@ -91,22 +82,8 @@ module _ (n m : ℕ) (f : ℕ → ℕ → Bool) (o g : ℕ) (v : Bool) where
   pub bit_put_inside : (within o n && within g m) ≡ true → put_bit_within n m f o g v ≡ put_bit f o g v
   bit_put_inside e = cond-true _ _ _ e
 
-  pub bit_put_outside : (within o n && within g m) ≡ false → f ≡ put_bit_within n m f o g v
-  bit_put_outside e = sym (cond-false _ _ _ e)
-
   pub other_inside : (within o n && within g m) ≡ true → is_other_within n m f o g v ≡ not (same v (f o g))
   other_inside e = ap (λ (b : Bool). b && not (same v (f o g))) e
-
-  pub other_outside : (within o n && within g m) ≡ false → false ≡ is_other_within n m f o g v
-  other_outside e = sym (ap (λ (b : Bool). b && not (same v (f o g))) e)
-
-pub bit_outside : (cells : List ℕ) (o g : ℕ) → (within o 256 && within g 8) ≡ false → true ≡ mask_bit (at_number 256 255 cells o) g
-bit_outside cells o g e = by_output (within o 256) refl (within g 8) refl
-  where
-    by_output : (s : Bool) → within o 256 ≡ s → (t : Bool) → within g 8 ≡ t → true ≡ mask_bit (at_number 256 255 cells o) g
-    by_output false p t q = sym (all_set g) ∙ ap (λ b. mask_bit b g) (at_outside 256 255 cells o p)
-    by_output true p false q = sym (cond-false _ _ _ q)
-    by_output true p true q = absurd (true≢false (sym (λ i. p i && q i) ∙ e))
 
 -- a bit that is set to what it is
 pub bit_kept : (f : ℕ → ℕ → Bool) (o g : ℕ) (v : Bool) → v ≡ f o g → f ≡ put_bit f o g v
@@ -117,24 +94,14 @@ bit_kept f o g v e = λ i j h. at j h (eqb j o) refl (eqb h g) refl i
     at j h true p false q = refl
     at j h false p t q = refl
 
-module _ (cells : List ℕ) (o g : ℕ) (long : length cells ≡ 256) (output : within o 256 ≡ true) (group : within g 8 ≡ true) where
-  abbrev mask : ℕ → ℕ
-  mask = at_number 256 255 cells
-
-  abbrev cell : ℕ
-  cell = get_or cells (o - 1) 0
-
+-- the mask of an output is put with one bit flipped
+module _ (masks : ℕ → ℕ) (o g b : ℕ) (read : b ≡ masks o) (output : within o 256 ≡ true) (group : within g 8 ≡ true) where
   abbrev after : ℕ
-  after = bit_xor cell (1 * 2 ^ (g - 1) % 256)
+  after = bit_xor b (1 * 2 ^ (g - 1) % 256)
 
-  inside : cell ≡ mask o
-  inside = at_inside 256 255 cells o long output 0
-
-  pub bit_written : (v : Bool) → v ≡ not (mask_bit (mask o) g) → (λ j. mask_bit (at_number 256 255 (set cells (o - 1) after) j)) ≡ put_bit (λ j. mask_bit (mask j)) o g v
-  bit_written v other = λ i j h. (ap (λ b. mask_bit b h) (at_written 256 255 cells o long output after j) ∙ at j h (eqb j o) refl) i
+  pub bit_written : (v : Bool) → v ≡ not (mask_bit (masks o) g) → (λ j. mask_bit (put_within 256 masks o after j)) ≡ put_bit (λ j. mask_bit (masks j)) o g v
+  bit_written v other = λ i j h. (ap (λ (f : ℕ → ℕ). mask_bit (f j) h) (put_inside 256 masks o after output) ∙ at j h (eqb j o) refl) i
     where
-      at : (j h : ℕ) (s : Bool) → eqb j o ≡ s → mask_bit (cond s after (mask j)) h ≡ cond s (cond (eqb h g) v (mask_bit (mask j) h)) (mask_bit (mask j) h)
-      at j h true e =
-          bit_flipped cell g group v (other ∙ ap (λ b. not (mask_bit b g)) (sym inside)) h
-          ∙ ap (λ b. cond (eqb h g) v (mask_bit b h)) (inside ∙ ap mask (sym (eqb-true j o e)))
+      at : (j h : ℕ) (s : Bool) → eqb j o ≡ s → mask_bit (cond s after (masks j)) h ≡ cond s (cond (eqb h g) v (mask_bit (masks j) h)) (mask_bit (masks j) h)
+      at j h true e = bit_flipped b g group v (other ∙ ap (λ b. not (mask_bit b g)) (sym read)) h ∙ ap (λ b. cond (eqb h g) v (mask_bit b h)) (read ∙ ap masks (sym (eqb-true j o e)))
       at j h false e = refl

@@ -1,31 +1,27 @@
--- What a row of cells has for a number: at the start, inside the row, outside it, and after one cell is written.
-use Rattle.std.proofs.Common.{◌≡◌, ℕ, ◌-◌, true, false, List, length, get_or, set, replicate, sym, ◌∙◌, arith}
-use Rattle.std.proofs.lemmas.Bool.Decides.{nat_tests}
-use Rattle.std.proofs.lemmas.Bool.{cond-true, cond-false}
-use Rattle.std.proofs.lemmas.List.{get_or-replicate, get_or_default, get_or-set_same, get_or-set_other}
+-- Tables read through a function of their values: filled with one value, and after one was written.
+use Rattle.std.proofs.Common.{◌≡◌, ℕ, Bool, true, false, cond, eqb, Option, Some, None, refl}
+use Rattle.std.proofs.lemmas.Bool.{cond-true}
 use Rattle.fabric.specs.Meaning.{within}
-use Rattle.records.specs.Tables.{at_number, put_at, put_within}
+use Rattle.records.specs.Tables.{put_at, put_within}
 
 module _ {V : Type 0} (n : ℕ) (f : ℕ → V) (k : ℕ) (v : V) where
   pub put_inside : within k n ≡ true → put_within n f k v ≡ put_at f k v
   put_inside e = cond-true _ _ _ e
 
-  pub put_outside : within k n ≡ false → f ≡ put_within n f k v
-  put_outside e = sym (cond-false _ _ _ e)
+  pub put_read : {W : Type 0} (g : V → W) → ◌≡◌ {A = ℕ → W} (λ j. g (put_within n f k v j)) (put_within n (λ j. g (f j)) k (g v))
+  put_read {W} g = λ i j. by (within k n) j i
+    where
+      here : (j : ℕ) (b : Bool) → g (cond b v (f j)) ≡ cond b (g v) (g (f j))
+      here j true = refl
+      here j false = refl
 
-module _ {V : Type 0} (n : ℕ) (d : V) where
-  pub at_start : (k : ℕ) → at_number n d (replicate n d) k ≡ d
-  at_start k = grind (arith, nat_tests, get_or-replicate n (k - 1) d d)
+      by : (b : Bool) (j : ℕ) → g (cond {A = ℕ → V} b (put_at f k v) f j) ≡ cond {A = ℕ → W} b (put_at (λ j. g (f j)) k (g v)) (λ j. g (f j)) j
+      by true j = here j (eqb j k)
+      by false j = refl
 
-  pub at_outside : (xs : List V) (k : ℕ) → within k n ≡ false → d ≡ at_number n d xs k
-  at_outside xs k e = sym (cond-false _ _ _ e)
-
-  module _ (xs : List V) (k : ℕ) (long : length xs ≡ n) (inside : within k n ≡ true) where
-    pub at_inside : (e : V) → get_or xs (k - 1) e ≡ at_number n d xs k
-    at_inside e = rw inside (get_or_default xs (k - 1) e d (grind (arith, nat_tests)))
-
-    pub at_written : (v : V) (j : ℕ) → at_number n d (set xs (k - 1) v) j ≡ put_at (at_number n d xs) k v j
-    at_written v j = grind (arith, nat_tests, get_or-set_same, get_or-set_other)
-
-    pub table_written : (v : V) → at_number n d (set xs (k - 1) v) ≡ put_within n (at_number n d xs) k v
-    table_written v = (λ i j. at_written v j i) ∙ sym (put_inside n (at_number n d xs) k v inside)
+pub filled_read : {V W : Type 0} (n : ℕ) (v : V) (g : Option V → W) (w : W) → g (Some v) ≡ w → g None ≡ w → ◌≡◌ {A = ℕ → W} (λ k. g (cond (within k n) (Some v) None)) (λ k. w)
+filled_read n v g w inside outside = λ i k. by (within k n) i
+  where
+    by : (b : Bool) → g (cond b (Some v) None) ≡ w
+    by true = inside
+    by false = outside

@@ -1,6 +1,6 @@
 pub mod Cells
 pub mod Below
 pub mod Bits
-pub mod UserNumbers
 pub mod Small
-pub mod Every
+pub mod Lists
+pub mod Ranges

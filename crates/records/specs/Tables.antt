@@ -1,19 +1,20 @@
--- Tables that are kept as a row of cells and read by a number from 1 on.
+-- Tables that are read by a number from 1 on.
 --
---   at_number n d xs k   what the row xs of n cells has for the number k: d outside 1 to n
+--   value_at t k         the value that the table t has at the number k: none outside the numbers from 1 to its length
 --   put_at f k v         f with v at k
 --   put_within n f k v   the same, if k is one of 1 to n; else f
 --   put_bit f k g v      f with v at k and g
 --   put_bit_within n m f k g v    the same, if k is one of 1 to n and g one of 1 to m; else f
 --   is_other_within n m f k g v   k and g are such numbers, and f has another bit than v there
-use Rattle.std.specs.Prelude.{ℕ, ◌-◌, Bool, cond, not, ◌&&◌, List, ◌==◌, slice_index_or}
+use Rattle.std.specs.Prelude.{ℕ, ◌-◌, Bool, cond, not, ◌&&◌, None, Option, ◌==◌, slice_get}
 use Rattle.fabric.specs.Meaning.{within}
 use Rattle.rules.specs.Switching.{same}
+use Rattle.records.specs.declared.table.Table.{Table}
+
+abbrev pub value_at : {T : Type 0} {N : ℕ} → Table T N → ℕ → Option T
+value_at {T} {N} t k = cond (within k N) (slice_get t.cells (k - 1)) None
 
 module _ {V : Type 0} where
-  abbrev pub at_number : ℕ → V → List V → ℕ → V
-  at_number n d xs k = cond (within k n) (slice_index_or xs (k - 1) d) d
-
   abbrev pub put_at : (ℕ → V) → ℕ → V → ℕ → V
   put_at f k v j = cond (j == k) v (f j)
 

@@ -1,10 +1,9 @@
 // Which outputs are locked.
-ghost use Rattle.std.specs.Prelude.{◌≡◌, length};
+use crate::table::Table;
 
 mod methods;
 
 #[derive(Clone, Copy)]
 pub struct Locks {
-    cells: [bool; 256],
-    ghost whole: { length cells ≡ 256 },
+    locked: Table<bool, 256>,
 }

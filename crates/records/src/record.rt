@@ -9,6 +9,7 @@ use replies::change::ChangeQueue;
 
 mod methods;
 
+// No `Model`, which would be no plainer: the unit lends a record by the row of its fields, and its contracts read `port_state` beside that.
 #[derive(Drop)]
 pub struct PortRecord {
     receiver: Receiver,

@@ -1,6 +1,5 @@
 // The users that may log in.
-ghost use Rattle.std.specs.Prelude.{◌≡◌, length};
-
+use crate::table::Table;
 use replies::text::ShortText;
 
 mod methods;
@@ -13,6 +12,5 @@ pub struct User {
 
 #[derive(Clone, Copy)]
 pub struct Users {
-    cells: [User; 8],
-    ghost whole: { length cells ≡ 8 },
+    users: Table<User, 8>,
 }

@@ -4,7 +4,7 @@ ghost use Rattle.records.specs.Tables.{put_within};
 ghost use Rattle.records.specs.Records.{locks_of};
 
 use super::Locks;
-use fabric::is_within;
+use crate::table::Table;
 
 impl Locks {
     // No output is locked.
@@ -12,7 +12,7 @@ impl Locks {
         ensures { locks_of result ≡ (λ o. false) }
     {
         Locks {
-            cells: [false; 256],
+            locked: Table::of(false),
         }
     }
 
@@ -20,19 +20,13 @@ impl Locks {
     pub fn is_locked(&self, output: u16) -> bool
         ensures { result ≡ locks_of self.now output }
     {
-        if !is_within(output, 256) {
-            return false;
-        }
-        self.cells[output as usize - 1]
+        self.locked.get(output).unwrap_or(false)
     }
 
     // Outside 1 to 256 nothing is changed.
     pub fn set(&mut self, output: u16, locked: bool)
         ensures { locks_of self.new ≡ put_within 256 (locks_of self.old) output locked }
     {
-        if !is_within(output, 256) {
-            return;
-        }
-        self.cells[output as usize - 1] = locked;
+        self.locked.set(output, locked);
     }
 }

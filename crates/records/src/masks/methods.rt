@@ -3,9 +3,10 @@ ghost use Rattle.std.specs.Prelude.{◌≡◌, true, ◌&&◌};
 ghost use Rattle.fabric.specs.Meaning.{within};
 ghost use Rattle.records.specs.Tables.{put_bit_within, is_other_within};
 ghost use Rattle.rules.specs.State.{byte_of};
-ghost use Rattle.records.specs.Records.{masks_of};
+ghost use Rattle.records.specs.Records.{mask_at, masks_of};
 
 use super::Masks;
+use crate::table::Table;
 use fabric::is_within;
 
 // Whether there is a bit for the output and the group.
@@ -20,27 +21,33 @@ impl Masks {
     pub fn new() -> Masks
         ensures { masks_of result ≡ (λ o g. true) }
     {
-        Masks { cells: [0xFF; 256] }
+        Masks {
+            masks: Table::of(0xFF),
+        }
     }
 
-    // Outside 1 to 256 every bit counts as set.
+    // The mask of an output. Outside 1 to 256 every bit counts as set.
+    fn mask(&self, output: u16) -> u8
+        ensures { result ≡ mask_at self.now output }
+    {
+        self.masks.get(output).unwrap_or(0xFF)
+    }
+
+    // The mask of an output, as its bits say.
     pub fn byte(&self, output: u16) -> u8
         ensures { result ≡ byte_of (masks_of self.now output) }
     {
-        if !is_within(output, 256) {
-            return 0xFF;
-        }
-        self.cells[output as usize - 1]
+        self.mask(output)
     }
 
     // Outside the outputs and the groups a bit counts as set.
     pub fn bit(&self, output: u16, group: u8) -> bool
         ensures { result ≡ masks_of self.now output group }
     {
-        if !has_bit(output, group) {
+        if !is_within(group as u16, 8) {
             return true;
         }
-        self.cells[output as usize - 1] >> (group - 1) & 1 == 1
+        self.mask(output) >> (group - 1) & 1 == 1
     }
 
     // Sets or clears a bit, and says whether it was another. Outside the outputs and the groups nothing is changed.
@@ -54,9 +61,8 @@ impl Masks {
         if self.bit(output, group) == bit {
             return false;
         }
-        let cell = output as usize - 1;
-        let mask = self.cells[cell];
-        self.cells[cell] = mask ^ 1 << (group - 1);
+        let mask = self.mask(output) ^ 1 << (group - 1);
+        self.masks.set(output, mask);
         true
     }
 }

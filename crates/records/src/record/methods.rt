@@ -14,6 +14,7 @@ use fabric::is_within;
 use packets::packet::Packet;
 use packets::receiver::Receiver;
 use replies::change::{Change, ChangeQueue};
+use std::mem;
 
 // Whether the numbers of a change have three digits.
 fn is_small(change: Change) -> bool
@@ -73,10 +74,8 @@ impl PortRecord {
         ensures fits { FitsContents (changes (queued result).items) }
         ensures after { port_state self.new ≡ cleared (port_state self.old) }
     {
-        let queue = self.queue;
-        self.queue = ChangeQueue::new();
         self.mask_flag = false;
-        queue
+        mem::replace(&mut self.queue, ChangeQueue::new())
     }
 
     // Outside 1 to 8 there is no user to log in.
@@ -100,7 +99,7 @@ impl PortRecord {
     pub fn has_entries(&self) -> bool
         ensures { result ≡ nat_le 1 (length (port_state self.now).queue.items) }
     {
-        self.queue.as_slice().len() >= 1
+        !self.queue.as_slice().is_empty()
     }
 
     pub fn is_overrun(&self) -> bool

@@ -6,17 +6,18 @@ ghost use Rattle.records.specs.Tables.{put_within};
 ghost use Rattle.records.specs.Records.{user_of, users_of};
 
 use super::{User, Users};
-use crate::bytes::same_bytes;
-use fabric::is_within;
+use crate::table::Table;
 use replies::text::ShortText;
 
 // A user without a name and a password.
-fn nobody() -> User
-    ensures { user_of result ≡ record { name = []; password = [] } }
-{
-    User {
-        name: ShortText::empty(),
-        password: ShortText::empty(),
+impl Default for User {
+    ghost is_default = { λ user. user_of user ≡ record { name = []; password = [] } };
+
+    fn default() -> User {
+        User {
+            name: ShortText::default(),
+            password: ShortText::default(),
+        }
     }
 }
 
@@ -26,7 +27,7 @@ impl Users {
         ensures { users_of result ≡ (λ u. record { name = []; password = [] }) }
     {
         Users {
-            cells: [nobody(); 8],
+            users: Table::of(User::default()),
         }
     }
 
@@ -34,20 +35,14 @@ impl Users {
     pub fn get(&self, number: u8) -> User
         ensures { user_of result ≡ users_of self.now number }
     {
-        if !is_within(number as u16, 8) {
-            return nobody();
-        }
-        self.cells[number as usize - 1]
+        self.users.get(number as u16).unwrap_or_default()
     }
 
     // Outside 1 to 8 nothing is changed.
     pub fn enter(&mut self, number: u8, user: User)
         ensures { users_of self.new ≡ put_within 8 (users_of self.old) number (user_of user) }
     {
-        if !is_within(number as u16, 8) {
-            return;
-        }
-        self.cells[number as usize - 1] = user;
+        self.users.set(number as u16, user);
     }
 
     // Whether the user has this name and password.
@@ -55,19 +50,15 @@ impl Users {
         ensures { result ≡ is_user (users_of self.now) name.now password.now number }
     {
         let user = self.get(number);
-        same_bytes(name, user.name.as_slice()) && same_bytes(password, user.password.as_slice())
+        name == user.name.as_slice() && password == user.password.as_slice()
     }
 
     // The smallest user with this name and password.
+    // No type for user numbers, which would be no plainer: lines and panel bring any byte, and only two results keep the fact.
     pub fn find(&self, name: &[u8], password: &[u8]) -> Option<u8>
         ensures answer { result ≡ user_with (users_of self.now) name.now password.now }
         ensures user { is_user_number result ≡ true }
     {
-        for number in 1..9 {
-            if self.is_user(number, name, password) {
-                return Some(number);
-            }
-        }
-        None
+        (1..=8).find(|&number| self.is_user(number, name, password))
     }
 }

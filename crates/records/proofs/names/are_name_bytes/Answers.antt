@@ -1,14 +1,10 @@
-use Rattle.std.proofs.Common.{◌||◌, sym}
+use Rattle.std.proofs.Common.{◌||◌, ◌∙◌, rules}
+use Rattle.std.proofs.lemmas.Iterator.{YieldsList-from_slice}
+use Rattle.std.proofs.lemmas.Iterator.Search.{all_from_yields_List}
 use Rattle.wire.specs.Fields.{is_digit}
 use Rattle.rules.specs.Panel.{is_letter}
-use Rattle.records.proofs.Every.{every_on, every_not, every_end}
+use Rattle.records.proofs.Lists.{list_all-every}
 use Rattle.records.proofs.names.are_name_bytes.Goals as goal
 
-pub loop-b-preserved : goal.loop-b-preserved
-loop-b-preserved c = every_on (λ b. is_letter b || is_digit b) c.args.name.now c.loop-b.b-index c.loop-b.invariant c.loop-b-test.true (sym c.if-not-is_name_byte.ensures)
-
-pub returns-then-not-is_name_byte : goal.returns-then-not-is_name_byte
-returns-then-not-is_name_byte c = every_not (λ b. is_letter b || is_digit b) c.args.name.now c.loop-b.b-index c.loop-b.invariant c.loop-b-test.true (sym c.if-not-is_name_byte.ensures)
-
 pub returns : goal.returns
-returns c = every_end (λ b. is_letter b || is_digit b) c.args.name.now c.loop-b.b-index c.loop-b.invariant c.loop-b-test.false
+returns c = all_from_yields_List (λ b. is_letter b || is_digit b) _ _ _ c.all.ensures.ran (YieldsList-from_slice c.args.name.now cc) (λ x b q k. search rules) ∙ list_all-every (λ b. is_letter b || is_digit b) c.args.name.now

@@ -1,12 +1,8 @@
-use Rattle.std.proofs.Common.{not, ◌&&◌, eqb, leb, sym}
-use Rattle.records.proofs.Every.{every_on, every_not, every_end}
+use Rattle.std.proofs.Common.{◌&&◌, not, eqb, leb, ◌∙◌, rules}
+use Rattle.std.proofs.lemmas.Iterator.{YieldsList-from_slice}
+use Rattle.std.proofs.lemmas.Iterator.Search.{all_from_yields_List}
+use Rattle.records.proofs.Lists.{list_all-every}
 use Rattle.records.proofs.names.are_password_bytes.Goals as goal
 
-pub loop-b-preserved : goal.loop-b-preserved
-loop-b-preserved c = every_on (λ b. leb 0x20 b && (leb b 0x7E && not (eqb b 58))) c.args.password.now c.loop-b.b-index c.loop-b.invariant c.loop-b-test.true (sym c.if-not-is_password_byte.ensures)
-
-pub returns-then-not-is_password_byte : goal.returns-then-not-is_password_byte
-returns-then-not-is_password_byte c = every_not (λ b. leb 0x20 b && (leb b 0x7E && not (eqb b 58))) c.args.password.now c.loop-b.b-index c.loop-b.invariant c.loop-b-test.true (sym c.if-not-is_password_byte.ensures)
-
 pub returns : goal.returns
-returns c = every_end (λ b. leb 0x20 b && (leb b 0x7E && not (eqb b 58))) c.args.password.now c.loop-b.b-index c.loop-b.invariant c.loop-b-test.false
+returns c = all_from_yields_List (λ b. leb 0x20 b && (leb b 0x7E && not (eqb b 58))) _ _ _ c.all.ensures.ran (YieldsList-from_slice c.args.password.now cc) (λ x b q k. search rules) ∙ list_all-every (λ b. leb 0x20 b && (leb b 0x7E && not (eqb b 58))) c.args.password.now

@@ -1,40 +1,28 @@
--- The bit stays if it is the same, and is flipped if it is another; outside there is none.
-use Rattle.std.proofs.Common.{sym, ap, ◌∙◌}
+-- The bit stays if it is the same, and is flipped if it is another.
+use Rattle.std.proofs.Common.{unwrap_or, sym, ap, ◌∙◌}
 use mathlib.Core.Bool.{beq}
+use Rattle.std.specs.Cmp.{booleans_Decides}
 use Rattle.std.proofs.lemmas.Bool.{and_parts}
 use Rattle.fabric.specs.Meaning.{within}
-use Rattle.records.specs.Records.{masks_of}
-use Rattle.records.proofs.Bits.{agree, differ, bit_kept, bit_written, other_inside, other_outside, bit_put_inside, bit_put_outside}
+use Rattle.records.specs.Tables.{value_at}
+use Rattle.records.specs.Records.{mask_bit, mask_at, masks_of}
+use Rattle.records.proofs.Cells.{put_read}
+use Rattle.records.proofs.Bits.{differ, bit_kept, bit_written, bit_put_inside}
 use Rattle.records.proofs.masks.Masks.set.Goals as goal
 
-pub returns-then-not-has_bit : goal.returns-then-not-has_bit
-returns-then-not-has_bit c =
+pub returns-then-bit-clause-after : goal.returns-then-bit-clause-after
+returns-then-bit-clause-after c =
     let masks = masks_of c.args.self.now in
-    let outside = sym c.if-not-has_bit.ensures in
-    record {
-      answer = other_outside 256 8 masks c.args.output c.args.group c.args.bit outside;
-      after = bit_put_outside 256 8 masks c.args.output c.args.group c.args.bit outside;
-    }
+    let same = (booleans_Decides c.bit.result c.args.bit).0 c.if-bit.true in
+    bit_kept masks c.args.output c.args.group c.args.bit (sym same ∙ c.bit.ensures) ∙ sym (bit_put_inside 256 8 masks c.args.output c.args.group c.args.bit (sym c.if-not-has_bit.ensures))
 
-pub returns-then-bit : goal.returns-then-bit
-returns-then-bit c =
-    let masks = masks_of c.args.self.now in
-    let inside = sym c.if-not-has_bit.ensures in
-    let same = agree (masks c.args.output c.args.group) c.args.bit (ap (λ b. beq b c.args.bit) (sym c.bit.ensures) ∙ c.if-bit.true) in
-    record {
-      answer = same.1 ∙ sym (other_inside 256 8 masks c.args.output c.args.group c.args.bit inside);
-      after = bit_kept masks c.args.output c.args.group c.args.bit same.0 ∙ sym (bit_put_inside 256 8 masks c.args.output c.args.group c.args.bit inside);
-    }
-
-pub returns : goal.returns
-returns c =
+pub returns-clause-after : goal.returns-clause-after
+returns-clause-after c =
     let s = c.args.self.now in
     let inside = sym c.if-not-has_bit.ensures in
     let both = and_parts (within c.args.output 256) (within c.args.group 8) inside in
     let other = differ (masks_of s c.args.output c.args.group) c.args.bit (ap (λ b. beq b c.args.bit) (sym c.bit.ensures) ∙ c.if-bit.false) in
-    record {
-      answer = other.1 ∙ sym (other_inside 256 8 (masks_of s) c.args.output c.args.group c.args.bit inside);
-      after =
-          bit_written s.cells c.args.output c.args.group s.whole both.0 both.1 c.args.bit other.0
-          ∙ sym (bit_put_inside 256 8 (masks_of s) c.args.output c.args.group c.args.bit inside);
-    }
+    ap (λ t o. mask_bit (unwrap_or (t o) 255)) c.set.ensures
+    ∙ ap (λ f o. mask_bit (f o)) (put_read 256 (value_at s.masks) c.args.output _ (λ v. unwrap_or v 255))
+    ∙ bit_written (mask_at s) c.args.output c.args.group c.mask.result c.mask.ensures both.0 both.1 c.args.bit other
+    ∙ sym (bit_put_inside 256 8 (masks_of s) c.args.output c.args.group c.args.bit inside)

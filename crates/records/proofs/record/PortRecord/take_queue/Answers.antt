@@ -1,15 +1,17 @@
 -- The changes that are handed out are small, as the record says.
-use Rattle.std.proofs.Common.{refl, arith, rules}
-use Rattle.std.proofs.lemmas.List.{length-take-le}
+use Rattle.std.proofs.Common.{sym, subst, arith}
+use Rattle.std.proofs.lemmas.List.{length-take}
+use Rattle.replies.specs.declared.change.Change.{Change}
+use Rattle.wire.specs.declared.list.KeptList.{KeptList}
 use Rattle.replies.specs.Queues.{queued}
+use Rattle.replies.specs.Replies.{changes, FitsContents}
 use Rattle.records.proofs.Small.{each_small}
 use Rattle.records.proofs.record.PortRecord.take_queue.Goals as goal
 
-pub returns : goal.returns
-returns c =
+pub returns-clause-fits : goal.returns-clause-fits
+returns-clause-fits c =
     let s = c.args.self.now in
-    record {
-      answer = refl;
-      fits = (omega (arith, length-take-le s.queue.used s.queue.cells (omega (arith, s.queue.whole, s.queue.within)), s.queue.within), each_small (queued s.queue).items s.small);
-      after = search rules;
-    }
+    subst (λ (q : KeptList Change 8). FitsContents (changes (queued q).items)) (sym c.replace.ensures.value) (
+      omega (arith, length-take s.queue.used s.queue.cells, s.queue.within),
+      each_small (queued s.queue).items s.small,
+    )

@@ -1,14 +1,10 @@
--- The cell of the user's number, and no other, is written.
-use Rattle.std.proofs.Common.{sym}
-use Rattle.records.specs.Records.{user_of, users_of}
-use Rattle.records.proofs.Cells.{put_outside}
-use Rattle.records.proofs.UserNumbers.{user_written}
+use Rattle.std.proofs.Common.{option_map, unwrap_or, Some, ap, ◌∙◌}
+use Rattle.records.specs.Tables.{value_at}
+use Rattle.records.specs.Records.{user_of, nobody}
+use Rattle.records.proofs.Cells.{put_read}
 use Rattle.records.proofs.users.Users.enter.Goals as goal
-
-pub returns-then-not-is_within : goal.returns-then-not-is_within
-returns-then-not-is_within c = put_outside 8 (users_of c.args.self.now) c.args.number (user_of c.args.user) (sym c.if-not-is_within.ensures)
 
 pub returns : goal.returns
 returns c =
-    let s = c.args.self.now in
-    user_written s.cells c.args.number s.whole (sym c.if-not-is_within.ensures) c.args.user
+    ap (λ t u. unwrap_or (option_map user_of (t u)) nobody) c.set.ensures
+    ∙ put_read 8 (value_at c.args.self.now.users) c.args.number (Some c.args.user) (λ v. unwrap_or (option_map user_of v) nobody)

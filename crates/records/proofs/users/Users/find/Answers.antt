@@ -1,27 +1,17 @@
--- A user that is not the one is passed; the first that is, is found; behind the last there is none.
-use Rattle.std.proofs.Common.{sym, refl, ◌∙◌, rules}
+-- The chain finds the first number that passes, and so does the rule.
+use Rattle.std.proofs.Common.{sym, ◌∙◌, rules}
+use Rattle.std.proofs.lemmas.Iterator.Adapters.{option_map_id}
+use Rattle.std.proofs.lemmas.Iterator.Search.{find_from_yields_List}
+use Rattle.rules.specs.Commands.{is_user, user_numbers}
 use Rattle.records.specs.Records.{users_of}
-use Rattle.records.proofs.UserNumbers.{found, passed, not_found}
+use Rattle.records.proofs.Lists.{find-first_user}
+use Rattle.records.proofs.Ranges.{YieldsList-from_range_inclusive}
 use Rattle.records.proofs.users.Users.find.Goals as goal
 
-pub loop-number-preserved : goal.loop-number-preserved
-loop-number-preserved c =
-    passed (users_of c.args.self.now) c.args.name.now c.args.password.now c.loop-number.number c.loop-number.auto.number c.loop-number-test.true (sym c.is_user.ensures ∙ c.if-is_user.false)
-    ∙ c.loop-number.invariant
-
-pub returns-then-is_user : goal.returns-then-is_user
-returns-then-is_user c =
-    record {
-      answer = sym (found (users_of c.args.self.now) c.args.name.now c.args.password.now c.loop-number.number c.loop-number.auto.number c.loop-number-test.true (sym c.is_user.ensures ∙ c.if-is_user.true))
-          ∙ c.loop-number.invariant;
-      user = search rules;
-    }
-
-pub returns : goal.returns
-returns c =
-    record {
-      answer =
-          sym (not_found (users_of c.args.self.now) c.args.name.now c.args.password.now c.loop-number.number c.loop-number-test.false)
-          ∙ c.loop-number.invariant;
-      user = refl;
-    }
+pub returns-clause-answer : goal.returns-clause-answer
+returns-clause-answer c =
+    let us = users_of c.args.self.now in
+    let numbers = YieldsList-from_range_inclusive 1 8 c.new.ensures.start c.new.ensures.end c.new.ensures.exhausted in
+    sym (option_map_id c.find.result)
+    ∙ find_from_yields_List (is_user us c.args.name.now c.args.password.now) _ _ c.find.result c.find.ensures.ran numbers (λ x b q k. search rules)
+    ∙ find-first_user us c.args.name.now c.args.password.now user_numbers
