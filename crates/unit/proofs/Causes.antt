@@ -1,139 +1,102 @@
--- The first cause of a list, and what a command does with it.
-use Rattle.std.proofs.Common.{◌≡◌, ℕ, Bool, true, false, List, [], ◌∷◌, IfOk, Some, None, Ok, Err, Option, Result, sym, refl, ap, ◌∙◌, arith}
-use Rattle.std.specs.Option.{option_map}
+-- The causes that a command's tests find, and what the command does with them.
+use Rattle.std.proofs.Common.{◌≡◌, ℕ, Bool, true, false, List, [], ◌∷◌, Some, None, Ok, Err, Option, Result, sym, refl, ap, ◌∙◌}
+use Rattle.std.specs.Option.{option_map, option_or}
+use Rattle.std.specs.Result.{IsErrAnd}
+use Rattle.std.proofs.lemmas.Result.{err_from_is_err_and}
 use Rattle.fabric.specs.declared.fault.RouteFault.TheVariants.{CannotBeMade}
 use Rattle.packets.specs.Commands.{Command, set_output, lock_output}
-use Rattle.replies.specs.Replies.{ack, Fits}
+use Rattle.replies.specs.Replies.{ack, nak, Fits}
 use Rattle.replies.specs.Replying.{reply_of}
 use Rattle.replies.specs.declared.reply.Reply.{Reply as ReplyOfCode}
 use Rattle.rules.specs.declared.fault.CommandFault.{CommandFault}
 use Rattle.rules.specs.declared.fault.CommandFault.TheVariants.{OutputLocked as CommandLocked, CannotBeMade as CommandCannotBeMade}
-use Rattle.rules.specs.declared.refusal.Refusal.{Refusal}
-use Rattle.rules.specs.declared.refusal.Refusal.TheVariants.{OutputLocked as PanelLocked, CannotBeMade as PanelCannotBeMade}
 use Rattle.rules.specs.declared.port.Port.{Port}
 use Rattle.rules.specs.State.{State}
 use Rattle.rules.specs.Switching.{in_range, may_set, may_lock, can_be_made, unless, first_of}
-use Rattle.rules.specs.Commands.{range_fault, ethernet_fault, right_fault, lock_fault, pair_fault, may_switch, Judged, fault_of, effect, contents, unless_fault, reply_to, carried_out}
-use Rattle.rules.specs.Calls.{unless_refused}
+use Rattle.rules.specs.Commands.{letter, range_fault, ethernet_fault, right_fault, lock_fault, pair_fault, may_switch, Judged, fault_of, effect, contents, unless_fault, reply_to, carried_out}
 use Rattle.unit.specs.declared.fault.SwitchFault.{SwitchFault}
 use Rattle.unit.specs.declared.fault.SwitchFault.TheVariants.{OutputLocked, Route}
-use Rattle.unit.specs.Switches.{checked, command_fault, panel_fault, switch_fault, setting_fault, locking_fault as lock_fault_of, unless_found}
-use Rattle.unit.specs.Answering.{Carried}
+use Rattle.unit.specs.Switches.{checked, command_fault, switch_fault, setting_fault, locking_fault, unless_found}
+use Rattle.unit.specs.Answering.{reply_of_result, Carried}
 
+-- what a test that was passed, or was not, says of the causes that it looked for
 module _ {G : Type 0} where
-  pub none_found : (x : Option G) {r : Result (Unit {0}) G} {u : Unit {0}} → r ≡ checked x → r ≡ Ok u → x ≡ None
+  none_found : (x : Option G) {r : Result (Unit {0}) G} {u : Unit {0}} → r ≡ checked x → r ≡ Ok u → x ≡ None
   none_found None e o = refl
-  none_found (Some f) e o = let z : ◌≡◌ {A = ℕ} 0 1 = cc in absurd (omega arith)
+  none_found (Some f) e o = cc
 
-  pub one_found : (x : Option G) (f : G) {r : Result (Unit {0}) G} → r ≡ checked x → r ≡ Err f → x ≡ Some f
-  one_found None f e o = let z : ◌≡◌ {A = ℕ} 0 1 = cc in absurd (omega arith)
-  one_found (Some g) f e o = cc
+  one_found : (x : Option G) {f : G} {r : Result (Unit {0}) G} → r ≡ checked x → r ≡ Err f → x ≡ Some f
+  one_found None e o = cc
+  one_found (Some g) e o = cc
+
+  -- two tests were passed, so that the third decides
+  pub last_decides : (a b x : Option G) {q r t : Result (Unit {0}) G} {u v : Unit {0}} → q ≡ checked a → q ≡ Ok u → r ≡ checked b → r ≡ Ok v → t ≡ checked x → t ≡ checked (first_of (a ∷ b ∷ x ∷ []))
+  last_decides None None None e o k l n = n
+  last_decides None None (Some f) e o k l n = n
+  last_decides None (Some g) x e o k l n = cc
+  last_decides (Some g) b x e o k l n = cc
 
   -- three tests before others
-  pub passed : (a b c : Option G) (rest : List (Option G)) → first_of (a ∷ b ∷ c ∷ []) ≡ None → first_of (a ∷ b ∷ c ∷ rest) ≡ first_of rest
-  passed None None None rest e = refl
-  passed None None (Some f) rest e = let z : ◌≡◌ {A = ℕ} 0 1 = cc in absurd (omega arith)
-  passed None (Some f) c rest e = let z : ◌≡◌ {A = ℕ} 0 1 = cc in absurd (omega arith)
-  passed (Some f) b c rest e = let z : ◌≡◌ {A = ℕ} 0 1 = cc in absurd (omega arith)
-
-  pub stopped : (a b c : Option G) (rest : List (Option G)) (f : G) → first_of (a ∷ b ∷ c ∷ []) ≡ Some f → first_of (a ∷ b ∷ c ∷ rest) ≡ Some f
-  stopped None None None rest f e = let z : ◌≡◌ {A = ℕ} 0 1 = cc in absurd (omega arith)
-  stopped None None (Some g) rest f e = e
-  stopped None (Some g) c rest f e = e
-  stopped (Some g) b c rest f e = e
+  three_first : (a b x : Option G) (rest : List (Option G)) → first_of (a ∷ b ∷ x ∷ rest) ≡ option_or (first_of (a ∷ b ∷ x ∷ [])) (first_of rest)
+  three_first None None None rest = refl
+  three_first None None (Some f) rest = refl
+  three_first None (Some f) x rest = refl
+  three_first (Some f) b x rest = refl
 
 -- the causes of a switching are those of the command
-pub as_command : (may IfOk : Bool) → first_of (unless may CommandLocked ∷ unless IfOk CommandCannotBeMade ∷ []) ≡ option_map command_fault (first_of (unless may OutputLocked ∷ unless IfOk (Route CannotBeMade) ∷ []))
-as_command false IfOk = refl
+as_command : (may made : Bool) → first_of (unless may CommandLocked ∷ unless made CommandCannotBeMade ∷ []) ≡ option_map command_fault (first_of (unless may OutputLocked ∷ unless made (Route CannotBeMade) ∷ []))
+as_command false made = refl
 as_command true false = refl
 as_command true true = refl
 
--- a command for which a cause was found, and one for which none was
+-- the command c is asked by a test, which finds a, and then by the switching itself, which finds b
+pub record Asked (s : State) (p : Port) (c : Command) (a : Option CommandFault) (b : Option SwitchFault) : Type 0 where
+  pub causes : fault_of s p c ≡ option_or a (option_map command_fault b)
+
+module _ (s : State) (p : Port) (o i : ℕ) where
+  pub set_asked : Asked s p (set_output o i) (switch_fault s p 0x53 o i) (setting_fault s o i)
+  set_asked = record { causes = three_first (range_fault (in_range s o i)) (ethernet_fault s p (set_output o i)) (right_fault (may_switch s p o)) (lock_fault (may_set s o) ∷ pair_fault s o i ∷ []) ∙ ap (option_or (switch_fault s p 0x53 o i)) (as_command (may_set s o) (can_be_made s o i)) }
+
+  pub lock_asked : Asked s p (lock_output o i) (switch_fault s p 0x4C o i) (locking_fault s o i)
+  lock_asked = record { causes = three_first (range_fault (in_range s o i)) (ethernet_fault s p (lock_output o i)) (right_fault (may_switch s p o)) (lock_fault (may_lock s o i) ∷ pair_fault s o i ∷ []) ∙ ap (option_or (switch_fault s p 0x4C o i)) (as_command (may_lock s o i) (can_be_made s o i)) }
+
+-- a command by the cause that was found, or that none was
 module _ (s : State) (p : Port) (c : Command) where
   judged_by : (x : Option CommandFault) → fault_of s p c ≡ x → carried_out s p c ≡ unless_fault s p c x
   judged_by x e = ap (unless_fault s p c) e
 
-  pub refused : (f : CommandFault) → fault_of s p c ≡ Some f → Carried s p c (Err f) s
-  refused f e = record { answer = ap (λ (j : Judged). reply_to j.answer) (sym (judged_by (Some f) e)); after = ap (λ (j : Judged). j.next) (sym (judged_by (Some f) e)); fits = tt }
+  stopped : (f : CommandFault) (x : Result ReplyOfCode CommandFault) → fault_of s p c ≡ Some f → IsErrAnd x (λ e. e ≡ f) → Carried s p c x s
+  stopped f x e passed_on =
+      let k = err_from_is_err_and x passed_on in
+      let says : reply_of_result x ≡ nak (letter f) = ap reply_of_result k.1 ∙ ap (λ (y : CommandFault). nak (letter y)) k.2 in
+      record { answer = says ∙ ap (λ (j : Judged). reply_to j.answer) (sym (judged_by (Some f) e)); after = ap (λ (j : Judged). j.next) (sym (judged_by (Some f) e)); fits = rw k.1 tt }
 
-  pub accepted : (r : ReplyOfCode) (t : State) → fault_of s p c ≡ None → reply_of r ≡ ack (contents s p c) → t ≡ effect s p c → Fits (reply_of r) → Carried s p c (Ok r) t
-  accepted r t e says goes fit = record { answer = says ∙ ap (λ (j : Judged). reply_to j.answer) (sym (judged_by None e)); after = goes ∙ ap (λ (j : Judged). j.next) (sym (judged_by None e)); fits = fit }
+  done : (y : ReplyOfCode) (t : State) → fault_of s p c ≡ None → reply_of y ≡ ack (contents s p c) → t ≡ effect s p c → Fits (reply_of y) → Carried s p c (Ok y) t
+  done y t e says goes fit = record { answer = says ∙ ap (λ (j : Judged). reply_to j.answer) (sym (judged_by None e)); after = goes ∙ ap (λ (j : Judged). j.next) (sym (judged_by None e)); fits = fit }
 
--- single tests
-pub test_passed : {G : Type 0} (b : Bool) (f : G) → unless b f ≡ None → b ≡ true
-test_passed true f e = refl
-test_passed false f e = let z : ◌≡◌ {A = ℕ} 0 1 = cc in absurd (omega arith)
+  -- all causes were looked for by one test
+  pub refused : {r : Result (Unit {0}) CommandFault} {f : CommandFault} (x : Result ReplyOfCode CommandFault) → r ≡ checked (fault_of s p c) → r ≡ Err f → IsErrAnd x (λ e. e ≡ f) → Carried s p c x s
+  refused x e o passed_on = stopped _ x (one_found (fault_of s p c) e o) passed_on
 
-pub whatever : {T E : Type 0} (r : Result T E) (P : Type 0) → P → IfOk r (λ x. P)
-whatever (Ok x) P h = h
-whatever (Err f) P h = tt
+  pub accepted : {r : Result (Unit {0}) CommandFault} {u : Unit {0}} (y : ReplyOfCode) (t : State) → r ≡ checked (fault_of s p c) → r ≡ Ok u → reply_of y ≡ ack (contents s p c) → t ≡ effect s p c → Fits (reply_of y) → Carried s p c (Ok y) t
+  accepted y t e o = done y t (none_found (fault_of s p c) e o)
 
-pub alone : {G : Type 0} (x : Option G) → first_of (x ∷ []) ≡ x
-alone None = refl
-alone (Some f) = refl
+-- or by one test first, and then by the switching
+module _ {s : State} {p : Port} {c : Command} {a : Option CommandFault} {b : Option SwitchFault} (asked : Asked s p c a b) where
+  both : {x : Option CommandFault} {y : Option SwitchFault} → a ≡ x → b ≡ y → fault_of s p c ≡ option_or x (option_map command_fault y)
+  both e k = asked.causes ∙ (λ j. option_or (e j) (option_map command_fault (k j)))
 
--- the same where the state afterwards is known by the cause
-pub refused_after : (s : State) (p : Port) (c : Command) (f : CommandFault) (t u : State) → fault_of s p c ≡ Some f → t ≡ unless_found s (fault_of s p c) u → Carried s p c (Err f) t
-refused_after s p c f t u e goes =
-    let x = refused s p c f e in
-    let same : t ≡ s = goes ∙ ap (λ (y : Option CommandFault). unless_found s y u) e in
-    record { answer = x.answer; after = same ∙ x.after; fits = tt }
+  pub refused_first : {r : Result (Unit {0}) CommandFault} {f : CommandFault} (x : Result ReplyOfCode CommandFault) → r ≡ checked a → r ≡ Err f → IsErrAnd x (λ e. e ≡ f) → Carried s p c x s
+  refused_first x e o passed_on = stopped s p c _ x (both (one_found a e o) refl) passed_on
 
--- S and L: what stops them before the output is looked at, and what does then
-module _ (s : State) (p : Port) (o i : ℕ) where
-  pub set_stopped : (f : CommandFault) → switch_fault s p 0x53 o i ≡ Some f → fault_of s p (set_output o i) ≡ Some f
-  set_stopped f = stopped (range_fault (in_range s o i)) (ethernet_fault s p (set_output o i)) (right_fault (may_switch s p o)) (lock_fault (may_set s o) ∷ pair_fault s o i ∷ []) f
+  pub refused_then : {r : Result (Unit {0}) CommandFault} {u : Unit {0}} {q : Result (Unit {0}) SwitchFault} {f : SwitchFault} (x : Result ReplyOfCode CommandFault) (t : State)
+      → r ≡ checked a → r ≡ Ok u → q ≡ checked b → q ≡ Err f → IsErrAnd x (λ e. e ≡ command_fault f) → t ≡ unless_found s b (effect s p c) → Carried s p c x t
+  refused_then x t e o k l passed_on goes =
+      let found = one_found b k l in
+      rw (goes ∙ ap (λ (y : Option SwitchFault). unless_found s y (effect s p c)) found) (stopped s p c _ x (both (none_found a e o) found) passed_on)
 
-  pub set_passed : switch_fault s p 0x53 o i ≡ None → fault_of s p (set_output o i) ≡ option_map command_fault (setting_fault s o i)
-  set_passed e = passed (range_fault (in_range s o i)) (ethernet_fault s p (set_output o i)) (right_fault (may_switch s p o)) (lock_fault (may_set s o) ∷ pair_fault s o i ∷ []) e ∙ as_command (may_set s o) (can_be_made s o i)
-
-  pub lock_stopped : (f : CommandFault) → switch_fault s p 0x4C o i ≡ Some f → fault_of s p (lock_output o i) ≡ Some f
-  lock_stopped f = stopped (range_fault (in_range s o i)) (ethernet_fault s p (lock_output o i)) (right_fault (may_switch s p o)) (lock_fault (may_lock s o i) ∷ pair_fault s o i ∷ []) f
-
-  pub lock_passed : switch_fault s p 0x4C o i ≡ None → fault_of s p (lock_output o i) ≡ option_map command_fault (lock_fault_of s o i)
-  lock_passed e = passed (range_fault (in_range s o i)) (ethernet_fault s p (lock_output o i)) (right_fault (may_switch s p o)) (lock_fault (may_lock s o i) ∷ pair_fault s o i ∷ []) e ∙ as_command (may_lock s o i) (can_be_made s o i)
-
--- what was tried, by the cause x that was found: the result r, and the state t that was s and would be u
-pub record Tried (s u : State) (x : Option CommandFault) (r : Result (Unit {0}) CommandFault) (t : State) : Type 0 where
-  pub answer : r ≡ checked x
-  pub after : t ≡ unless_found s x u
-
-module _ (s u : State) (x : Option CommandFault) where
-  pub tried_stopped : (f e : CommandFault) (r : Result (Unit {0}) CommandFault) → x ≡ Some f → r ≡ Err e → e ≡ f → Tried s u x r s
-  tried_stopped f e r found err same = record { answer = err ∙ ap (λ (y : CommandFault). Err y) same ∙ ap checked (sym found); after = ap (λ (y : Option CommandFault). unless_found s y u) (sym found) }
-
-  pub tried_refused : (y : Option SwitchFault) (f : SwitchFault) (e : CommandFault) (r : Result (Unit {0}) CommandFault) (t : State) → x ≡ option_map command_fault y → y ≡ Some f → r ≡ Err e → e ≡ command_fault f → t ≡ unless_found s y u → Tried s u x r t
-  tried_refused y f e r t link found err same goes =
-      let z : x ≡ Some (command_fault f) = link ∙ ap (option_map command_fault) found in
-      record { answer = err ∙ ap (λ (w : CommandFault). Err w) same ∙ ap checked (sym z); after = goes ∙ ap (λ (w : Option SwitchFault). unless_found s w u) found ∙ ap (λ (w : Option CommandFault). unless_found s w u) (sym z) }
-
-  pub tried_done : (y : Option SwitchFault) (t : State) → x ≡ option_map command_fault y → y ≡ None → t ≡ unless_found s y u → Tried s u x (Ok tt) t
-  tried_done y t link none goes =
-      let z : x ≡ None = link ∙ ap (option_map command_fault) none in
-      record { answer = ap checked (sym z); after = goes ∙ ap (λ (w : Option SwitchFault). unless_found s w u) none ∙ ap (λ (w : Option CommandFault). unless_found s w u) (sym z) }
-
--- ---- the panel
-
--- what a panel call did, by the cause x that was found: the result r, and the state t that was s and would be u
-pub record PanelSo (s u : State) (x : Option Refusal) (r : Result ℕ Refusal) (t : State) : Type 0 where
-  pub answer : r ≡ (unless_refused s x u).answer.result
-  pub after : t ≡ (unless_refused s x u).next
-
--- the causes of a switching are those of the panel call
-pub as_panel : (may IfOk : Bool) → first_of (unless may PanelLocked ∷ unless IfOk PanelCannotBeMade ∷ []) ≡ option_map panel_fault (first_of (unless may OutputLocked ∷ unless IfOk (Route CannotBeMade) ∷ []))
-as_panel false IfOk = refl
-as_panel true false = refl
-as_panel true true = refl
-
-module _ (s u : State) (x : Option Refusal) where
-  pub panel_stopped : (f e : Refusal) (r : Result ℕ Refusal) → x ≡ Some f → r ≡ Err e → e ≡ f → PanelSo s u x r s
-  panel_stopped f e r found err same =
-      record { answer = err ∙ ap (λ (y : Refusal). Err y) same ∙ ap (λ (y : Option Refusal). (unless_refused s y u).answer.result) (sym found); after = ap (λ (y : Option Refusal). (unless_refused s y u).next) (sym found) }
-
-  pub panel_refused : (y : Option SwitchFault) (f : SwitchFault) (e : Refusal) (r : Result ℕ Refusal) (t : State) → x ≡ option_map panel_fault y → y ≡ Some f → r ≡ Err e → e ≡ panel_fault f → t ≡ unless_found s y u → PanelSo s u x r t
-  panel_refused y f e r t link found err same goes =
-      let z : x ≡ Some (panel_fault f) = link ∙ ap (option_map panel_fault) found in
-      record {
-        answer = err ∙ ap (λ (w : Refusal). Err w) same ∙ ap (λ (w : Option Refusal). (unless_refused s w u).answer.result) (sym z);
-        after = goes ∙ ap (λ (w : Option SwitchFault). unless_found s w u) found ∙ ap (λ (w : Option Refusal). (unless_refused s w u).next) (sym z);
-      }
+  pub accepted_then : {r : Result (Unit {0}) CommandFault} {u : Unit {0}} {q : Result (Unit {0}) SwitchFault} {v : Unit {0}} (y : ReplyOfCode) (t : State)
+      → r ≡ checked a → r ≡ Ok u → q ≡ checked b → q ≡ Ok v → t ≡ unless_found s b (effect s p c) → reply_of y ≡ ack (contents s p c) → Fits (reply_of y) → Carried s p c (Ok y) t
+  accepted_then y t e o k l goes says fit =
+      let none = none_found b k l in
+      done s p c y t (both (none_found a e o) none) says (goes ∙ ap (λ (z : Option SwitchFault). unless_found s z (effect s p c)) none) fit

@@ -1,18 +1,11 @@
--- The password of an ELP that was read has at most ten bytes; and a packet for the unit is answered as the rules say.
-use Rattle.std.proofs.Common.{◌≡◌, ℕ, Bool, true, false, cond, eqb, leb, List, [], ◌∷◌, length, drop, Some, None, Ok, Err, Option, Result, sym, refl, ap, ◌∙◌}
+-- The password of an ELP that was read has at most ten bytes.
+use Rattle.std.proofs.Common.{◌≡◌, ℕ, Bool, true, false, cond, eqb, leb, List, [], ◌∷◌, length, drop, Some, None, Ok, Err, Option, Result, refl, rules}
 use Rattle.std.specs.List.{AllByRecursion}
-use Rattle.wire.specs.Fields.{short_text}
 use Rattle.wire.specs.Letters.{begins, Row, looked_up}
 use Rattle.packets.specs.declared.packet.PacketFault.{PacketFault}
 use Rattle.packets.specs.declared.packet.PacketFault.TheVariants.{Unlisted, WrongCheckByte, ListOverrun}
-use Rattle.packets.specs.Address.{Parts, parts, matches}
 use Rattle.packets.specs.Receiver.{Packet}
-use Rattle.packets.specs.Data.{one_number, two_numbers, mask_data, login_data}
-use Rattle.packets.specs.Commands.{Command, ask_flags, ask_version, lock_keypad, show_keypad, unlock_keypad, read_queue, lock_ethernet, ask_login, lock_output, set_output, unlock_output, ask_input, ask_status, unlock_ethernet, set_password, set_mask, log_in, with_data, bare, rows, decode, command_in}
-use Rattle.rules.specs.declared.port.Port.{Port}
-use Rattle.rules.specs.State.{State}
-use Rattle.rules.specs.Commands.{judged}
-use Rattle.rules.specs.Calls.{judged_outcome, if_matching, if_addressed, packet_step}
+use Rattle.packets.specs.Commands.{Command, set_password, with_data, bare, rows, decode, command_in}
 use Rattle.unit.specs.Answering.{fits_outcome}
 
 -- a command that was made of any data
@@ -43,59 +36,7 @@ from_rows (r ∷ rs) xs a = either (begins r.letters xs) (r.says (drop (length r
     either false x y p q = q
 
 decoded_fits : (xs : List ℕ) → fits_outcome (decode xs) ≡ true
-decoded_fits xs =
-    from_rows rows xs (
-      (λ ys. any_data unlock_ethernet (short_text ys) (λ d. refl)),
-      (
-        (λ ys. no_data lock_ethernet ys refl),
-        (
-          (λ ys. short ys (leb (length ys) 10) refl),
-          (
-            (λ ys. no_data lock_keypad ys refl),
-            (
-              (λ ys. no_data show_keypad ys refl),
-              (
-                (λ ys. no_data unlock_keypad ys refl),
-                (
-                  (λ ys. any_data ask_status (one_number ys) (λ d. refl)),
-                  (
-                    (λ ys. any_data (λ d. set_mask d.0 d.1 d.2) (mask_data ys) (λ d. refl)),
-                    (
-                      (λ ys. no_data ask_login ys refl),
-                      (
-                        (λ ys. any_data (λ d. log_in d.0 d.1) (login_data ys) (λ d. refl)),
-                        (
-                          (λ ys. no_data ask_flags ys refl),
-                          (
-                            (λ ys. no_data ask_version ys refl),
-                            (
-                              (λ ys. any_data (λ d. lock_output d.0 d.1) (two_numbers ys) (λ d. refl)),
-                              (
-                                (λ ys. any_data ask_input (one_number ys) (λ d. refl)),
-                                (
-                                  (λ ys. no_data read_queue ys refl),
-                                  (
-                                    (λ ys. any_data (λ d. set_output d.0 d.1) (two_numbers ys) (λ d. refl)),
-                                    (
-                                      (λ ys. any_data (λ d. unlock_output d.0 d.1) (two_numbers ys) (λ d. refl)),
-                                      tt,
-                                    ),
-                                  ),
-                                ),
-                              ),
-                            ),
-                          ),
-                        ),
-                      ),
-                    ),
-                  ),
-                ),
-              ),
-            ),
-          ),
-        ),
-      ),
-    )
+decoded_fits xs = from_rows rows xs (search (rules, any_data, no_data, short) depth 60)
 
 pub command_fits : (k : Packet) (body : List ℕ) → fits_outcome (command_in k body) ≡ true
 command_fits k body = by_tests k.right k.listed.overrun
@@ -104,7 +45,3 @@ command_fits k body = by_tests k.right k.listed.overrun
     by_tests false v = refl
     by_tests true true = refl
     by_tests true false = decoded_fits body
-
--- a packet with the address bytes h and l, which are the unit's
-pub packet_answered : (s : State) (p : Port) (k : Packet) (a : Parts) → Some a ≡ parts k.listed.items → true ≡ matches s.address a.high a.low → packet_step s p (Some k) ≡ judged_outcome a.high a.low (judged s p (command_in k a.body))
-packet_answered s p k a e t = ap (if_addressed s p k) (sym e) ∙ ap (λ (m : Bool). if_matching m s p k a) (sym t)

@@ -1,5 +1,6 @@
 -- What switching an output answers, and how its causes go up.
 --
+--   HasOutput m o     o is one of the outputs of a fabric that means m
 --   command_fault     a switching's cause as that of a command
 --   panel_fault       the same as that of a panel call; one outside the counts was asked for before
 --   checked f         the answer of a test that found the cause f, or none
@@ -7,7 +8,8 @@
 --   switch_fault      why S, L and U are refused before the output is looked at; x is the first letter of the command
 --   unless_found      the state t, unless a cause was found: then s
 use Rattle.rules.specs.State.{State}
-use Rattle.std.specs.Prelude.{ℕ, not, ◌&&◌, [], ◌∷◌, Some, None, Ok, Err, Option, Result}
+use Rattle.std.specs.Prelude.{◌≡◌, ℕ, true, not, ◌&&◌, [], ◌∷◌, Some, None, Ok, Err, Option, Result}
+use Rattle.fabric.specs.Meaning.{Meaning, within}
 use Rattle.fabric.specs.declared.fault.RouteFault.TheVariants.{OutOfRange as RouteOutOfRange, CannotBeMade as RouteCannotBeMade}
 use Rattle.rules.specs.declared.fault.CommandFault.{CommandFault}
 use Rattle.rules.specs.declared.fault.CommandFault.TheVariants.{OutOfRange, EthernetLocked, OutputLocked, CannotBeMade}
@@ -19,6 +21,9 @@ use Rattle.rules.specs.Switching.{in_range, may_set, may_lock, can_be_made, unle
 use Rattle.rules.specs.Commands.{range_fault, right_fault, may_switch}
 use Rattle.unit.specs.declared.fault.SwitchFault.{SwitchFault}
 use Rattle.unit.specs.declared.fault.SwitchFault.TheVariants.{OutputLocked as SwitchLocked, Route}
+
+abbrev pub HasOutput : Meaning → ℕ → Type 0
+HasOutput m o = within o m.outputs ≡ true
 
 abbrev pub command_fault : SwitchFault → CommandFault
 command_fault SwitchLocked = OutputLocked

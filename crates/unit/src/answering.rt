@@ -6,8 +6,7 @@ ghost use Rattle.packets.specs.Decoding.{command as command_of, outcome};
 ghost use Rattle.packets.specs.Receiving.{packet as packet_of};
 ghost use Rattle.replies.specs.Replies.{Fits, reply_bytes};
 ghost use Rattle.replies.specs.Replying.{reply_of};
-ghost use Rattle.wire.specs.Drafts.{sealed};
-ghost use Rattle.rules.specs.Calls.{packet_step, judged_outcome, Outcome};
+ghost use Rattle.rules.specs.Calls.{packet_step};
 ghost use Rattle.rules.specs.Commands.{judged, reply_to};
 ghost use Rattle.unit.specs.Answering.{Carried, JudgedSo, fits_command, fits_outcome};
 ghost use Rattle.unit.specs.Units.{state_of};
@@ -20,7 +19,7 @@ use packets::packet::{Packet, PacketFault};
 use replies::reply::{Reply, write_reply};
 use rules::fault::CommandFault;
 use rules::port::Port;
-use wire::reply::SealedReply;
+use wire::address::AddressBytes;
 
 impl<F: Fabric> Unit<F> {
     fn carry_out(&mut self, port: Port, command: Command<'_>) -> Result<Reply, CommandFault>
@@ -67,12 +66,10 @@ impl<F: Fabric> Unit<F> {
         ensures after { state_of F.meaning self.new ≡ (judged (state_of F.meaning self.old) port (command_in (packet_of packet.now) body.now)).next }
         ensures fits { Fits (reply_of result) }
     {
-        match self.obey(port, command_in(packet, body)) {
-            Ok(reply) => reply,
-            Err(fault) => Reply::Refused {
+        self.obey(port, command_in(packet, body))
+            .unwrap_or_else(|fault| Reply::Refused {
                 letter: fault.letter(),
-            },
-        }
+            })
     }
 
     // Judges a packet and writes the reply to the front of the buffer. Returns the reply's length, 0 for none.
@@ -85,34 +82,21 @@ impl<F: Fabric> Unit<F> {
         let Some(parts) = packet.parts() else {
             return 0;
         };
-        if !is_addressed(self.address, parts.high, parts.low) {
+        if !is_addressed(self.address, parts.address) {
             return 0;
         }
         let reply = self.judge(port, packet, parts.body);
-        copy_reply(parts.high, parts.low, &reply, buffer)
+        copy_reply(parts.address, &reply, buffer)
     }
 }
 
 // Writes a reply that fits to the front of a buffer that is long enough.
-fn copy_reply(high: u8, low: u8, reply: &Reply, buffer: &mut [u8]) -> usize
+fn copy_reply(address: AddressBytes, reply: &Reply, buffer: &mut [u8]) -> usize
     requires fits { Fits (reply_of reply.now) }
     requires in_bounds { 64 ≤ length buffer.old }
-    ensures answer { result ≡ length (reply_bytes high low (reply_of reply.now)) }
-    ensures buffer { buffer.new ≡ written (reply_bytes high low (reply_of reply.now)) buffer.old }
+    ensures answer { result ≡ length (reply_bytes address.high address.low (reply_of reply.now)) }
+    ensures buffer { buffer.new ≡ written (reply_bytes address.high address.low (reply_of reply.now)) buffer.old }
 {
-    match write_reply(high, low, reply) {
-        Ok(sealed) => copy_sealed(&sealed, buffer),
-        Err(_) => unreachable(),
-    }
-}
-
-fn copy_sealed(reply: &SealedReply, buffer: &mut [u8]) -> usize
-    requires { 64 ≤ length buffer.old }
-    ensures answer { result ≡ length (sealed reply.now) }
-    ensures buffer { buffer.new ≡ written (sealed reply.now) buffer.old }
-{
-    match reply.copy_to(buffer) {
-        Ok(length) => length,
-        Err(_) => unreachable(),
-    }
+    let sealed = write_reply(address, reply).unwrap();
+    sealed.copy_to(buffer).unwrap()
 }

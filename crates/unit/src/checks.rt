@@ -18,13 +18,10 @@ use rules::port::Port;
 fn is_ethernet(port: Port) -> bool
     ensures { result ≡ is_ethernet port }
 {
-    match port {
-        Port::One => false,
-        Port::Two => true,
-        Port::Three => false,
-    }
+    port == Port::Two
 }
 
+// With then_some and ok_or: no plainer, since a bool is first made an Option.
 fn check(passed: bool, fault: CommandFault) -> Result<(), CommandFault>
     ensures { result ≡ checked (unless passed fault) }
 {
@@ -70,6 +67,7 @@ impl<F: Fabric> Unit<F> {
     }
 
     // The Ethernet lock stops every command but ELD at port 2; `letter` is the first of the command's.
+    // A struct of port and letter: no plainer, since the rules take them one by one, and each clause would take it apart.
     pub(crate) fn check_ethernet(&self, port: Port, letter: u8) -> Result<(), CommandFault>
         ensures { result ≡ checked (unless (not ((state_of F.meaning self.now).ethernet && is_ethernet port)) (EthernetLocked letter)) }
     {
@@ -78,21 +76,14 @@ impl<F: Fabric> Unit<F> {
     }
 
     fn may_switch(&self, port: Port, output: u16) -> bool
-        requires { within output (state_of F.meaning self.now).fabric.outputs ≡ true }
         ensures { result ≡ may_switch (state_of F.meaning self.now) port output }
     {
-        if !self.access {
-            return true;
-        }
-        match self.ports.at(port).login() {
-            Some(user) => self.masks.bit(output, user),
-            None => false,
-        }
+        let login = self.ports.at(port).login();
+        !self.access || login.is_some_and(|user| self.masks.bit(output, user))
     }
 
     // S, L and U need a login whose group has its bit set at the output, if access control is on.
     pub(crate) fn check_right(&self, port: Port, output: u16) -> Result<(), CommandFault>
-        requires { within output (state_of F.meaning self.now).fabric.outputs ≡ true }
         ensures { result ≡ checked (right_fault (may_switch (state_of F.meaning self.now) port output)) }
     {
         check(self.may_switch(port, output), CommandFault::NoRight)
@@ -101,10 +92,7 @@ impl<F: Fabric> Unit<F> {
     fn is_user_one(&self, port: Port) -> bool
         ensures { result ≡ is_logged_in_as 1 (port_at (state_of F.meaning self.now) port).login }
     {
-        match self.ports.at(port).login() {
-            Some(user) => user == 1,
-            None => false,
-        }
+        self.ports.at(port).login() == Some(1)
     }
 
     // ZA needs a login as user 1.
@@ -131,6 +119,7 @@ impl<F: Fabric> Unit<F> {
     }
 
     // What ZA is asked.
+    // A struct of group, bit and output: no plainer, since the rules' command holds the three, and each clause would take it apart.
     pub(crate) fn check_mask(
         &self,
         port: Port,

@@ -1,43 +1,22 @@
 // The commands, one method each. A method answers, or tells the cause for which the command is refused; then nothing is changed.
-ghost use Rattle.std.specs.Prelude.{◌≡◌, ◌≤◌, length, ◌==◌};
+ghost use Rattle.std.specs.Prelude.{◌≡◌, ◌≤◌, length};
 ghost use Rattle.wire.specs.Fields.{most_text};
 ghost use Rattle.packets.specs.Commands.{ask_flags, ask_version, lock_keypad, show_keypad, unlock_keypad, read_queue, lock_ethernet, ask_login, lock_output, set_output, unlock_output, ask_input, ask_status, unlock_ethernet, set_password, set_mask, log_in};
-ghost use Rattle.rules.specs.Switching.{do_set, do_lock};
 ghost use Rattle.replies.specs.Replies.{ack, Fits};
 ghost use Rattle.replies.specs.Replying.{reply_of};
 ghost use Rattle.rules.specs.State.{port_at};
-ghost use Rattle.rules.specs.Commands.{fault_of, login_shown, do_mask};
+ghost use Rattle.rules.specs.Commands.{login_shown};
 ghost use Rattle.unit.specs.Answering.{Carried};
-ghost use Rattle.unit.specs.Switches.{checked, unless_found};
 ghost use Rattle.unit.specs.Units.{state_of};
 
 use crate::state::Unit;
 use fabric::Fabric;
-use records::bytes::same_bytes;
 use replies::reply::Reply;
 use replies::text::ShortText;
 use rules::fault::CommandFault;
 use rules::port::Port;
 
 impl<F: Fabric> Unit<F> {
-    fn try_set(&mut self, port: Port, output: u16, input: u16) -> Result<(), CommandFault>
-        ensures answer { result ≡ checked (fault_of (state_of F.meaning self.old) port (set_output output input)) }
-        ensures after { state_of F.meaning self.new ≡ unless_found (state_of F.meaning self.old) (fault_of (state_of F.meaning self.old) port (set_output output input)) (do_set (state_of F.meaning self.old) output input) }
-    {
-        self.check_switch(port, b'S', output, input)?;
-        self.set(output, input)?;
-        Ok(())
-    }
-
-    fn try_lock(&mut self, port: Port, output: u16, input: u16) -> Result<(), CommandFault>
-        ensures answer { result ≡ checked (fault_of (state_of F.meaning self.old) port (lock_output output input)) }
-        ensures after { state_of F.meaning self.new ≡ unless_found (state_of F.meaning self.old) (fault_of (state_of F.meaning self.old) port (lock_output output input)) (do_lock (state_of F.meaning self.old) output input) }
-    {
-        self.check_switch(port, b'L', output, input)?;
-        self.lock(output, input)?;
-        Ok(())
-    }
-
     // S
     pub(crate) fn set_output(
         &mut self,
@@ -47,7 +26,8 @@ impl<F: Fabric> Unit<F> {
     ) -> Result<Reply, CommandFault>
         ensures { Carried (state_of F.meaning self.old) port (set_output output input) result (state_of F.meaning self.new) }
     {
-        self.try_set(port, output, input)?;
+        self.check_switch(port, b'S', output, input)?;
+        self.set(output, input)?;
         Ok(Reply::OutputSet)
     }
 
@@ -60,7 +40,8 @@ impl<F: Fabric> Unit<F> {
     ) -> Result<Reply, CommandFault>
         ensures { Carried (state_of F.meaning self.old) port (lock_output output input) result (state_of F.meaning self.new) }
     {
-        self.try_lock(port, output, input)?;
+        self.check_switch(port, b'L', output, input)?;
+        self.lock(output, input)?;
         Ok(Reply::OutputLocked)
     }
 
@@ -180,7 +161,7 @@ impl<F: Fabric> Unit<F> {
         ensures { Carried (state_of F.meaning self.old) port (unlock_ethernet password.now) result (state_of F.meaning self.new) }
     {
         let _ = port;
-        if !same_bytes(password, self.password.as_slice()) {
+        if password != self.password.as_slice() {
             return Err(CommandFault::WrongPassword);
         }
         self.ethernet_locked = false;
@@ -199,17 +180,15 @@ impl<F: Fabric> Unit<F> {
         ensures answer { reply_of result ≡ ack (login_shown (state_of F.meaning self.now) (port_at (state_of F.meaning self.now) port).login) }
         ensures fits { Fits (reply_of result) }
     {
-        match self.ports.at(port).login() {
-            Some(user) => Reply::Login {
-                user,
-                group: user,
-                name: self.users.get(user).name,
-            },
-            None => Reply::Login {
-                user: 0,
-                group: 0,
-                name: ShortText::empty(),
-            },
+        let login = self.ports.at(port).login();
+        let user = login.unwrap_or(0);
+        let name = login
+            .map(|user| self.users.get(user).name)
+            .unwrap_or_default();
+        Reply::Login {
+            user,
+            group: user,
+            name,
         }
     }
 
@@ -223,9 +202,10 @@ impl<F: Fabric> Unit<F> {
         ensures { Carried (state_of F.meaning self.old) port (log_in name.now password.now) result (state_of F.meaning self.new) }
     {
         self.check_ethernet(port, b'Z')?;
-        let Some(user) = self.users.find(name, password) else {
-            return Err(CommandFault::NoRight);
-        };
+        let user = self
+            .users
+            .find(name, password)
+            .ok_or(CommandFault::NoRight)?;
         self.begin_login(port, user);
         Ok(Reply::LoggedIn { user, group: user })
     }
@@ -240,9 +220,7 @@ impl<F: Fabric> Unit<F> {
         ensures { Carried (state_of F.meaning self.old) port (set_password password.now) result (state_of F.meaning self.new) }
     {
         self.check_ethernet(port, b'E')?;
-        if let Some(text) = ShortText::of(password) {
-            self.password = text;
-        }
+        self.password = ShortText::try_from(password).unwrap();
         Ok(Reply::EthernetChanged)
     }
 
@@ -256,16 +234,8 @@ impl<F: Fabric> Unit<F> {
     ) -> Result<Reply, CommandFault>
         ensures { Carried (state_of F.meaning self.old) port (set_mask group bit output) result (state_of F.meaning self.new) }
     {
-        self.try_mask(port, group, bit, output)?;
-        Ok(Reply::MaskSet)
-    }
-
-    fn try_mask(&mut self, port: Port, group: u8, bit: u8, output: u16) -> Result<(), CommandFault>
-        ensures answer { result ≡ checked (fault_of (state_of F.meaning self.old) port (set_mask group bit output)) }
-        ensures after { state_of F.meaning self.new ≡ unless_found (state_of F.meaning self.old) (fault_of (state_of F.meaning self.old) port (set_mask group bit output)) (do_mask (state_of F.meaning self.old) output group (bit == 1)) }
-    {
         self.check_mask(port, group, bit, output)?;
         self.put_mask(output, group, bit == 1);
-        Ok(())
+        Ok(Reply::MaskSet)
     }
 }

@@ -19,20 +19,11 @@ impl<F: Fabric> Unit<F> {
         ensures after { state_of F.meaning self.new ≡ next (state_of F.meaning self.old) (byte port b (length reply.old)) }
         ensures law { KeepsTheLaws (state_of F.meaning self.old) (byte_event port b result reply.new) (state_of F.meaning self.new) }
     {
-        self.take_byte(port, b, reply)
-    }
-
-    fn take_byte(&mut self, port: u8, b: u8, reply: &mut [u8]) -> Result<usize, Refusal>
-        ensures answer { result ≡ (step (state_of F.meaning self.old) (byte port b (length reply.old))).answer.result }
-        ensures buffer { reply.new ≡ written (step (state_of F.meaning self.old) (byte port b (length reply.old))).answer.reply reply.old }
-        ensures after { state_of F.meaning self.new ≡ next (state_of F.meaning self.old) (byte port b (length reply.old)) }
-    {
         if reply.len() < 64 {
             return Err(Refusal::ShortBuffer);
         }
-        let Some(port) = Port::from_number(port) else {
-            return Err(Refusal::NoSuchPort);
-        };
+        let port = Port::try_from(port)?;
+        // With map_or: tried, and the proof did not close (what a closure leaves in the buffer and in the unit).
         match self.hear(port, b) {
             Some(packet) => Ok(self.answer_packet(port, &packet, reply)),
             None => Ok(0),
@@ -45,16 +36,7 @@ impl<F: Fabric> Unit<F> {
         ensures after { state_of F.meaning self.new ≡ next (state_of F.meaning self.old) (gap port) }
         ensures law { KeepsTheLaws (state_of F.meaning self.old) (plain_event (gap port) result) (state_of F.meaning self.new) }
     {
-        self.take_gap(port)
-    }
-
-    fn take_gap(&mut self, port: u8) -> Result<usize, Refusal>
-        ensures answer { result ≡ (step (state_of F.meaning self.old) (gap port)).answer.result }
-        ensures after { state_of F.meaning self.new ≡ next (state_of F.meaning self.old) (gap port) }
-    {
-        let Some(port) = Port::from_number(port) else {
-            return Err(Refusal::NoSuchPort);
-        };
+        let port = Port::try_from(port)?;
         self.drop_bytes(port);
         Ok(0)
     }
@@ -65,16 +47,7 @@ impl<F: Fabric> Unit<F> {
         ensures after { state_of F.meaning self.new ≡ next (state_of F.meaning self.old) (hang_up port) }
         ensures law { KeepsTheLaws (state_of F.meaning self.old) (plain_event (hang_up port) result) (state_of F.meaning self.new) }
     {
-        self.take_hang_up(port)
-    }
-
-    fn take_hang_up(&mut self, port: u8) -> Result<usize, Refusal>
-        ensures answer { result ≡ (step (state_of F.meaning self.old) (hang_up port)).answer.result }
-        ensures after { state_of F.meaning self.new ≡ next (state_of F.meaning self.old) (hang_up port) }
-    {
-        let Some(port) = Port::from_number(port) else {
-            return Err(Refusal::NoSuchPort);
-        };
+        let port = Port::try_from(port)?;
         self.end_login(port);
         Ok(0)
     }

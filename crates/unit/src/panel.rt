@@ -36,13 +36,6 @@ impl<F: Fabric> Unit<F> {
         ensures after { state_of F.meaning self.new ≡ next (state_of F.meaning self.old) (panel_set output input) }
         ensures law { KeepsTheLaws (state_of F.meaning self.old) (plain_event (panel_set output input) result) (state_of F.meaning self.new) }
     {
-        self.try_panel_set(output, input)
-    }
-
-    fn try_panel_set(&mut self, output: u16, input: u16) -> Result<usize, Refusal>
-        ensures answer { result ≡ (step (state_of F.meaning self.old) (panel_set output input)).answer.result }
-        ensures after { state_of F.meaning self.new ≡ next (state_of F.meaning self.old) (panel_set output input) }
-    {
         self.check_panel(output, input)?;
         self.set(output, input)?;
         Ok(0)
@@ -54,13 +47,6 @@ impl<F: Fabric> Unit<F> {
         ensures after { state_of F.meaning self.new ≡ next (state_of F.meaning self.old) (panel_lock output input) }
         ensures law { KeepsTheLaws (state_of F.meaning self.old) (plain_event (panel_lock output input) result) (state_of F.meaning self.new) }
     {
-        self.try_panel_lock(output, input)
-    }
-
-    fn try_panel_lock(&mut self, output: u16, input: u16) -> Result<usize, Refusal>
-        ensures answer { result ≡ (step (state_of F.meaning self.old) (panel_lock output input)).answer.result }
-        ensures after { state_of F.meaning self.new ≡ next (state_of F.meaning self.old) (panel_lock output input) }
-    {
         self.check_panel(output, input)?;
         self.lock(output, input)?;
         Ok(0)
@@ -71,13 +57,6 @@ impl<F: Fabric> Unit<F> {
         ensures answer { result ≡ (step (state_of F.meaning self.old) (panel_unlock output input)).answer.result }
         ensures after { state_of F.meaning self.new ≡ next (state_of F.meaning self.old) (panel_unlock output input) }
         ensures law { KeepsTheLaws (state_of F.meaning self.old) (plain_event (panel_unlock output input) result) (state_of F.meaning self.new) }
-    {
-        self.try_panel_unlock(output, input)
-    }
-
-    fn try_panel_unlock(&mut self, output: u16, input: u16) -> Result<usize, Refusal>
-        ensures answer { result ≡ (step (state_of F.meaning self.old) (panel_unlock output input)).answer.result }
-        ensures after { state_of F.meaning self.new ≡ next (state_of F.meaning self.old) (panel_unlock output input) }
     {
         self.check_panel(output, input)?;
         self.unlock(output);

@@ -18,10 +18,7 @@ use rules::port::PerPort;
 fn first_password() -> ShortText
     ensures { text result ≡ codes "Quintech" }
 {
-    match ShortText::of(b"Quintech") {
-        Some(text) => text,
-        None => unreachable(),
-    }
+    ShortText::try_from(b"Quintech".as_slice()).unwrap()
 }
 
 impl<F: Fabric> Unit<F> {

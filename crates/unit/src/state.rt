@@ -7,6 +7,7 @@ use replies::text::ShortText;
 use rules::port::PerPort;
 
 // A unit in service over a fabric. The table of its port records is a plain struct, of which one record at a time is lent.
+// No Model: its Value would be the rules' State, which holds functions (locks, masks, users, the fabric's meaning), and a function has no code.
 #[derive(Drop)]
 pub struct Unit<F> {
     pub(crate) fabric: F,

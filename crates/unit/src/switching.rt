@@ -4,7 +4,7 @@ ghost use Rattle.fabric.specs.Meaning.{within};
 ghost use Rattle.rules.specs.State.{with_lock, with_mask};
 ghost use Rattle.rules.specs.Commands.{do_mask};
 ghost use Rattle.rules.specs.Switching.{same, do_set, do_lock, do_unlock, in_range};
-ghost use Rattle.unit.specs.Switches.{checked, setting_fault, locking_fault, unless_found};
+ghost use Rattle.unit.specs.Switches.{HasOutput, checked, setting_fault, locking_fault, unless_found};
 ghost use Rattle.unit.specs.Units.{state_of, settled};
 
 use crate::fault::SwitchFault;
@@ -28,7 +28,7 @@ fn may_lock(locked: bool, input: u16, feeding: u16) -> bool
 
 impl<F: Fabric> Unit<F> {
     fn set_lock(&mut self, output: u16, locked: bool)
-        requires { within output (F.meaning self.old.fabric).outputs ≡ true }
+        requires { HasOutput (F.meaning self.old.fabric) output }
         ensures { state_of F.meaning self.new ≡ with_lock output locked (state_of F.meaning self.old) }
     {
         self.locks.set(output, locked);
@@ -36,7 +36,7 @@ impl<F: Fabric> Unit<F> {
 
     // The output was on `before` with the lock `was`: the change, if there is one, goes into every queue.
     fn settle(&mut self, output: u16, before: u16, was: bool)
-        requires { within output (F.meaning self.old.fabric).outputs ≡ true }
+        requires { HasOutput (F.meaning self.old.fabric) output }
         ensures { state_of F.meaning self.new ≡ settled (state_of F.meaning self.old) output before was }
     {
         let input = self.fabric.feeding(output);
@@ -78,7 +78,7 @@ impl<F: Fabric> Unit<F> {
     }
 
     pub(crate) fn unlock(&mut self, output: u16)
-        requires { within output (F.meaning self.old.fabric).outputs ≡ true }
+        requires { HasOutput (F.meaning self.old.fabric) output }
         ensures { state_of F.meaning self.new ≡ do_unlock (state_of F.meaning self.old) output }
     {
         let was = self.locks.is_locked(output);
@@ -89,7 +89,7 @@ impl<F: Fabric> Unit<F> {
 
     // Sets or clears a bit of an output's mask, and raises every port's mask flag if it was another.
     pub(crate) fn put_mask(&mut self, output: u16, group: u8, bit: bool)
-        requires fabric_value { within output (F.meaning self.old.fabric).outputs ≡ true }
+        requires fabric_value { HasOutput (F.meaning self.old.fabric) output }
         requires group_value { within group 8 ≡ true }
         ensures { state_of F.meaning self.new ≡ do_mask (state_of F.meaning self.old) output group bit }
     {
@@ -100,7 +100,7 @@ impl<F: Fabric> Unit<F> {
     }
 
     fn set_mask_bit(&mut self, output: u16, group: u8, bit: bool) -> bool
-        requires fabric_value { within output (F.meaning self.old.fabric).outputs ≡ true }
+        requires fabric_value { HasOutput (F.meaning self.old.fabric) output }
         requires group_value { within group 8 ≡ true }
         ensures answer { result ≡ not (same bit ((state_of F.meaning self.old).masks output group)) }
         ensures after { state_of F.meaning self.new ≡ with_mask output group bit (state_of F.meaning self.old) }

@@ -1,9 +1,8 @@
 // The entry of users.
-ghost use Rattle.std.specs.Prelude.{◌≡◌, Bool, true, length, nat_le};
+ghost use Rattle.std.specs.Prelude.{◌≡◌, true};
 ghost use Rattle.fabric.specs.Meaning.{within};
 ghost use Rattle.rules.specs.Calls.{enter_user, step, next};
 ghost use Rattle.rules.specs.Laws.{KeepsTheLaws};
-ghost use Rattle.replies.specs.Queues.{text};
 ghost use Rattle.rules.specs.State.{with_user};
 ghost use Rattle.records.specs.Records.{user_of};
 ghost use Rattle.unit.specs.Units.{state_of};
@@ -23,19 +22,12 @@ impl<F: Fabric> Unit<F> {
         ensures after { state_of F.meaning self.new ≡ next (state_of F.meaning self.old) (enter_user number name.now password.now) }
         ensures law { KeepsTheLaws (state_of F.meaning self.old) (plain_event (enter_user number name.now password.now) result) (state_of F.meaning self.new) }
     {
-        self.try_enter(number, name, password)
-    }
-
-    fn try_enter(&mut self, number: u8, name: &[u8], password: &[u8]) -> Result<usize, Refusal>
-        ensures answer { result ≡ (step (state_of F.meaning self.old) (enter_user number name.now password.now)).answer.result }
-        ensures after { state_of F.meaning self.new ≡ next (state_of F.meaning self.old) (enter_user number name.now password.now) }
-    {
         if !may_enter(number, name, password) {
             return Err(Refusal::WrongUser);
         }
         let user = User {
-            name: short_text(name),
-            password: short_text(password),
+            name: ShortText::try_from(name).unwrap(),
+            password: ShortText::try_from(password).unwrap(),
         };
         self.put_user(number, user);
         Ok(0)
@@ -46,15 +38,5 @@ impl<F: Fabric> Unit<F> {
         ensures { state_of F.meaning self.new ≡ with_user number (user_of user) (state_of F.meaning self.old) }
     {
         self.users.enter(number, user);
-    }
-}
-
-fn short_text(bytes: &[u8]) -> ShortText
-    requires { nat_le (length bytes.now) 10 ≡ true }
-    ensures { text result ≡ bytes.now }
-{
-    match ShortText::of(bytes) {
-        Some(text) => text,
-        None => unreachable(),
     }
 }

@@ -1,18 +1,23 @@
-use Rattle.rules.specs.Switching.{do_lock}
-use Rattle.rules.specs.Panel.{lock_refusal}
+use Rattle.std.proofs.Common.{refl, arith, rules}
+use Rattle.std.proofs.lemmas.Grind.{common_steps}
 use Rattle.rules.specs.Calls.{panel_lock}
-use Rattle.unit.specs.Units.{state_of}
-use Rattle.unit.proofs.Histories.{laws_kept, plain_event_is, panel_silent}
+use Rattle.unit.proofs.Histories.{laws_kept}
 use Rattle.unit.proofs.state.Unit.panel_lock.Goals as goal
 
-pub returns : goal.returns
-returns g c =
-    let s = state_of g.F.Fabric.meaning c.args.self.now in
-    let o = c.args.output in
-    let i = c.args.input in
-    let x = c.try_panel_lock.ensures in
-    record {
-      answer = x.answer;
-      after = x.after;
-      law = laws_kept s _ (panel_lock o i) _ (plain_event_is s (panel_lock o i) c.try_panel_lock.result x.answer (panel_silent s (lock_refusal s o i) (do_lock s o i))) x.after;
-    }
+pub returns-in_err-check_panel-clause-law : goal.returns-in_err-check_panel-clause-law
+returns-in_err-check_panel-clause-law g c = laws_kept _ _ (panel_lock c.args.output c.args.input) _ refl (grind (arith, common_steps)) (grind (arith, common_steps))
+
+pub returns-in_err-lock-clause-law : goal.returns-in_err-lock-clause-law
+returns-in_err-lock-clause-law g c = laws_kept _ _ (panel_lock c.args.output c.args.input) _ refl (search rules) (search rules)
+
+pub returns-clause-law : goal.returns-clause-law
+returns-clause-law g c = laws_kept _ _ (panel_lock c.args.output c.args.input) _ refl (search rules) (search rules)
+
+pub returns-in_err-check_panel-clause-answer : goal.returns-in_err-check_panel-clause-answer
+returns-in_err-check_panel-clause-answer g c = grind (arith, common_steps)
+
+pub returns-in_err-lock-clause-answer : goal.returns-in_err-lock-clause-answer
+returns-in_err-lock-clause-answer g c = grind (arith, common_steps)
+
+pub returns-in_err-lock-clause-after : goal.returns-in_err-lock-clause-after
+returns-in_err-lock-clause-after g c = grind (arith, common_steps)

@@ -1,18 +1,20 @@
-use Rattle.rules.specs.Switching.{do_set}
-use Rattle.rules.specs.Panel.{set_refusal}
+use Rattle.std.proofs.Common.{refl, arith, rules}
+use Rattle.std.proofs.lemmas.Grind.{common_steps}
 use Rattle.rules.specs.Calls.{panel_set}
-use Rattle.unit.specs.Units.{state_of}
-use Rattle.unit.proofs.Histories.{laws_kept, plain_event_is, panel_silent}
+use Rattle.unit.proofs.Histories.{laws_kept}
 use Rattle.unit.proofs.state.Unit.panel_set.Goals as goal
 
-pub returns : goal.returns
-returns g c =
-    let s = state_of g.F.Fabric.meaning c.args.self.now in
-    let o = c.args.output in
-    let i = c.args.input in
-    let x = c.try_panel_set.ensures in
-    record {
-      answer = x.answer;
-      after = x.after;
-      law = laws_kept s _ (panel_set o i) _ (plain_event_is s (panel_set o i) c.try_panel_set.result x.answer (panel_silent s (set_refusal s o i) (do_set s o i))) x.after;
-    }
+pub returns-in_err-check_panel-clause-law : goal.returns-in_err-check_panel-clause-law
+returns-in_err-check_panel-clause-law g c = laws_kept _ _ (panel_set c.args.output c.args.input) _ refl (grind (arith, common_steps)) (grind (arith, common_steps))
+
+pub returns-in_err-set-clause-law : goal.returns-in_err-set-clause-law
+returns-in_err-set-clause-law g c = laws_kept _ _ (panel_set c.args.output c.args.input) _ refl (search rules) (search rules)
+
+pub returns-clause-law : goal.returns-clause-law
+returns-clause-law g c = laws_kept _ _ (panel_set c.args.output c.args.input) _ refl (search rules) (search rules)
+
+pub returns-in_err-check_panel-clause-answer : goal.returns-in_err-check_panel-clause-answer
+returns-in_err-check_panel-clause-answer g c = grind (arith, common_steps)
+
+pub returns-in_err-set-clause-after : goal.returns-in_err-set-clause-after
+returns-in_err-set-clause-after g c = grind (arith, common_steps)
