@@ -13,6 +13,7 @@
 --                      by eight, access control off
 --   WorkedPrint        the packet with Q at port 1 prints its reply
 use Rattle.std.specs.Prelude.{◌≡◌, ℕ, ◌-◌, Bool, false, cond, ◌&&◌, List, [], ◌∷◌, ◌++◌, replicate, Some, None, codes, Option, nat_le}
+use Rattle.std.specs.List.{flat_map}
 use Rattle.std.specs.Option.{option_to_list}
 use Rattle.fabric.specs.Cards.{new_card}
 use Rattle.rules.specs.declared.port.Port.{Port}
@@ -63,8 +64,7 @@ abbrev pub line_of : Event → List ℕ
 line_of e = line_for e.call e.answer.reply
 
 abbrev pub lines_of : List Event → List ℕ
-lines_of [] = []
-lines_of (e ∷ es) = line_of e ++ lines_of es
+lines_of = flat_map line_of
 
 unfoldable pub printed_for : List ℕ → List ℕ
 unfolding along

@@ -12,7 +12,7 @@ use wire::fields::two_hex;
 fn port_digit(port: Port) -> u8
     ensures { result ≡ 0x30 + number_of port }
 {
-    b'0' + port.number()
+    b'0' + u8::from(port)
 }
 
 fn spaced_hex(b: u8) -> [u8; 3]

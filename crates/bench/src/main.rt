@@ -11,6 +11,6 @@ fn main(rt: HostRuntime) -> io::Result<()> {
     let heap = rt.alloc();
     let mut input = Vec::new(heap);
     rt.stdin().read_to_end(&mut input)?;
-    let output = session::printed(heap, input.as_slice())?;
-    rt.stdout().write_all(output.as_slice())
+    let output = session::printed(heap, &input)?;
+    rt.stdout().write_all(&output)
 }

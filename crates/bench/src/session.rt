@@ -1,7 +1,7 @@
 // A session: pairs of a port and a byte as calls, and the lines of their replies.
-ghost use Rattle.std.specs.Prelude.{◌≡◌, map};
-ghost use Rattle.std.specs.Option.{option_map, option_to_list};
-ghost use Rattle.calls.specs.Listed.{shown, event, events};
+ghost use Rattle.std.specs.Prelude.{◌≡◌, [], ◌∷◌, map};
+ghost use Rattle.std.specs.Option.{option_map};
+ghost use Rattle.calls.specs.Listed.{shown, events};
 ghost use Rattle.bench.specs.Memory.{UnlessOutOfMemory};
 ghost use Rattle.bench.specs.Sessions.{pair_call, calls_of, not_made, lines_of, printed_for, WorkedPrint};
 
@@ -35,49 +35,43 @@ fn call_in(heap: Global, first: u8, byte: u8) -> Result<Option<ListedCall>, Allo
 }
 
 // The calls of all pairs; an odd last byte is dropped.
-fn calls_in(heap: Global, input: &[u8]) -> Result<Vec<ListedCall>, AllocError>
+pub fn calls_in(heap: Global, input: &[u8]) -> Result<Vec<ListedCall>, AllocError>
     ensures { UnlessOutOfMemory result (λ v. map shown v.items ≡ map not_made (calls_of input.now)) }
 {
     let mut calls = Vec::new(heap);
-    let mut rest = input;
-    while let [first, byte, behind @ ..] = rest {
-        if let Some(call) = call_in(heap, *first, *byte)? {
+    let (pairs, _) = input.as_chunks::<2>();
+    for &[first, byte] in pairs {
+        if let Some(call) = call_in(heap, first, byte)? {
             calls.push(call)?;
         }
-        rest = behind;
     }
     Ok(calls)
 }
 
 // The line of a call that brought a reply; else nothing.
 fn line_of(heap: Global, listed: &ListedCall) -> Result<Vec<u8>, AllocError>
-    ensures { UnlessOutOfMemory result (λ v. v.items ≡ lines_of (option_to_list (event listed.now))) }
+    ensures { UnlessOutOfMemory result (λ v. v.items ≡ lines_of (events (listed.now ∷ []))) }
 {
-    let Call::Byte { port, reply, .. } = &listed.call else {
-        return Ok(Vec::new(heap));
-    };
-    let Some(Ok(length)) = listed.answer else {
-        return Ok(Vec::new(heap));
-    };
-    let Some(port) = Port::from_number(*port) else {
-        return Ok(Vec::new(heap));
-    };
-    let reply = reply.as_slice();
-    let length = length.min(reply.len());
-    if length == 0 {
-        return Ok(Vec::new(heap));
+    if let Call::Byte { port, reply, .. } = &listed.call
+        && let Some(Ok(length)) = listed.answer
+        && let Ok(port) = Port::try_from(*port)
+    {
+        let reply = &reply[..length.min(reply.len())];
+        if !reply.is_empty() {
+            return reply_line(heap, port, reply);
+        }
     }
-    reply_line(heap, port, &reply[0..length])
+    Ok(Vec::new(heap))
 }
 
 // The lines of all replies, in the order of the calls.
-fn lines(heap: Global, calls: &[ListedCall]) -> Result<Vec<u8>, AllocError>
+pub fn lines(heap: Global, calls: &[ListedCall]) -> Result<Vec<u8>, AllocError>
     ensures { UnlessOutOfMemory result (λ v. v.items ≡ lines_of (events calls.now)) }
 {
     let mut output = Vec::new(heap);
     for listed in calls {
         let line = line_of(heap, listed)?;
-        output.extend_from_slice(line.as_slice())?;
+        output.extend_from_slice(&line)?;
     }
     Ok(output)
 }
@@ -88,6 +82,6 @@ pub fn printed(heap: Global, input: &[u8]) -> Result<Vec<u8>, AllocError>
     ensures law { WorkedPrint }
 {
     let mut calls = calls_in(heap, input)?;
-    let _unit = serve(Card::new(8, 8), 0x00, false, calls.as_mut_slice());
-    lines(heap, calls.as_slice())
+    let _unit = serve(Card::new(8, 8), 0x00, false, &mut calls);
+    lines(heap, &calls)
 }

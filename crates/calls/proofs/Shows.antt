@@ -1,6 +1,6 @@
 -- What the calls of a list show is what the rules say of them, as events and as laws.
 use Rattle.std.proofs.Common.{◌≡◌, ℕ, List, [], ◌∷◌, ◌++◌, map, reverse, Some, None, Option, Result, sym, refl, ap, ◌∙◌, subst}
-use Rattle.std.specs.Option.{option_to_list}
+use Rattle.std.specs.List.{cons_option}
 use Rattle.wire.specs.Frames.{written}
 use Rattle.rules.specs.declared.port.Port.{Port}
 use Rattle.rules.specs.declared.refusal.Refusal.{Refusal}
@@ -44,7 +44,7 @@ pub events_are : (s : State) (ls : List Lent) → events_in (shown_along s ls) �
 unfolding along
 events_are s [] = refl
 events_are s (l ∷ ls) =
-    ap (λ (e : Option Event). option_to_list e ++ events_in (shown_along (next s l.call) ls)) (event_is s l)
+    ap (λ (e : Option Event). cons_option e (events_in (shown_along (next s l.call) ls))) (event_is s l)
     ∙ ap (λ (es : List Event). event_at s l.call ∷ es) (events_are (next s l.call) ls)
 
 -- one call of the list, after it was made

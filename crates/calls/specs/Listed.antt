@@ -14,7 +14,7 @@
 --   events xs        the same of the calls of a list
 --   LastTableTrue    where the last event is a Q answer of at most seven entries, its port's table is true in the state at the end
 use Rattle.std.specs.Prelude.{◌≡◌, ℕ, List, [], ◌∷◌, ◌++◌, map, reverse, length, Some, None, vec_items, Option, Result}
-use Rattle.std.specs.Option.{option_to_list}
+use Rattle.std.specs.List.{filter_map}
 use Rattle.wire.specs.Frames.{written}
 use Rattle.rules.specs.declared.refusal.Refusal.{Refusal}
 use Rattle.rules.specs.State.{State}
@@ -73,8 +73,7 @@ abbrev pub event : ListedCall → Option Event
 event x = event_in (shown x)
 
 abbrev pub events_in : List Shown → List Event
-events_in [] = []
-events_in (x ∷ xs) = option_to_list (event_in x) ++ events_in xs
+events_in = filter_map event_in
 
 abbrev pub events : List ListedCall → List Event
 events xs = events_in (map shown xs)

@@ -20,7 +20,7 @@ fn make<F: Fabric>(unit: &mut Unit<F>, call: &mut Call) -> Result<usize, Refusal
     ensures after { state_of F.meaning unit.new ≡ next (state_of F.meaning unit.old) (call_of call.old) }
 {
     match call {
-        Call::Byte { port, byte, reply } => unit.byte(*port, *byte, reply.as_mut_slice()),
+        Call::Byte { port, byte, reply } => unit.byte(*port, *byte, reply),
         Call::Gap { port } => unit.gap(*port),
         Call::HangUp { port } => unit.hang_up(*port),
         Call::PanelSet { output, input } => unit.panel_set(*output, *input),
@@ -30,7 +30,7 @@ fn make<F: Fabric>(unit: &mut Unit<F>, call: &mut Call) -> Result<usize, Refusal
             number,
             name,
             password,
-        } => unit.enter_user(*number, name.as_slice(), password.as_slice()),
+        } => unit.enter_user(*number, name, password),
     }
 }
 
@@ -50,8 +50,8 @@ pub fn serve<F: Fabric>(fabric: F, address: u8, access: bool, calls: &mut [Liste
     ensures last { LastTableTrue (events calls.new) (state_of F.meaning result) }
 {
     let mut unit = Unit::start(fabric, address, access);
-    for c in calls.iter_mut() {
-        c.answer = Some(make(&mut unit, &mut c.call));
+    for listed in calls {
+        listed.answer = Some(make(&mut unit, &mut listed.call));
     }
     unit
 }

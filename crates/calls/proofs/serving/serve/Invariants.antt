@@ -5,7 +5,7 @@ use Rattle.unit.specs.Units.{state_of}
 use Rattle.calls.specs.Listed.{shown_at, shown, lent}
 use Rattle.calls.proofs.serving.serve.Given as goal
 
-abbrev pub invariant-loop-c : goal.invariant-loop-c
-invariant-loop-c g l =
+abbrev pub invariant-loop-listed : goal.invariant-loop-listed
+invariant-loop-listed g l =
     let m = g.F.Fabric.meaning in
-    WholeRun shown_at next_lent lent shown (state_of m l.initial.unit) l.initial.calls l.c-index (state_of m l.unit) l.calls
+    WholeRun shown_at next_lent lent shown (state_of m l.initial.unit) l.initial.listed-items l.listed-index (state_of m l.unit) l.listed-items
