@@ -155,7 +155,7 @@ module _ (a b : Meaning) (second : ℕ → Bool) (o i : ℕ) where
       second_law = as_second a b second sa sb o (i - a.inputs) output has.0 has.1
 
   module _ (sa : Sound a) (sb : Sound b) where
-    pub parts_joined : joined (first_after a b o i) (second_after a b o i) (selected_after a b second o i) ≡ after (joined a b second) o i
+    parts_joined : joined (first_after a b o i) (second_after a b o i) (selected_after a b second o i) ≡ after (joined a b second) o i
     parts_joined = ways (covers a b o i) (nat_le i a.inputs) refl refl
       where
         ways : (w l : Bool) → covers a b o i ≡ w → nat_le i a.inputs ≡ l →
@@ -170,3 +170,7 @@ module _ (a b : Meaning) (second : ℕ → Bool) (o i : ℕ) where
             ap (λ (t : Bool). joined a (after b o (i - a.inputs)) (cond t (selecting second o true) second)) (ap ((joined a b second).makeable o) (sym same) ∙ law.made)
             ∙ sym law.changes
             ∙ ap (after (joined a b second) o) same
+
+    pub parts_after : {x y : Meaning} {z : ℕ → Bool} → x ≡ first_after a b o i → y ≡ second_after a b o i → z ≡ selected_after a b second o i →
+        joined x y z ≡ after (joined a b second) o i
+    parts_after p q r = (λ t. joined (p t) (q t) (r t)) ∙ parts_joined

@@ -10,7 +10,7 @@
 --   swap_meaning    a swap, from what the fabric below means
 use Rattle.std.specs.Prelude.{ℕ, ◌-◌, Bool, true, false, cond, ◌&&◌, List, nat_le, slice_index_or}
 use Rattle.fabric.specs.declared.card.Card.{Card}
-use Rattle.fabric.specs.declared.bank.BankSetup.{BankSetup}
+use Rattle.fabric.specs.declared.bank.setup.BankSetup.{BankSetup}
 use Rattle.fabric.specs.declared.bank.RelayBank.{RelayBank}
 use Rattle.fabric.specs.declared.join.Join.{Join}
 use Rattle.fabric.specs.declared.join.Side.{Side}

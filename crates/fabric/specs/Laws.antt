@@ -1,6 +1,7 @@
 -- The laws of fabrics.
 --
 --   OnlyTheFeedingRelayIsClosed           of an output's row of relays, that of the feeding input is closed, and no other
+--   EachOutputIsOnInputOne                every output inside the count is fed by input 1
 --   SwappedTwiceIsTheFabricBelow          exchanging two input numbers twice changes nothing
 --   SwappedRoutesTheExchangedInput        a routing of m with p and q exchanged is one of m by the number that the input has there
 --   TwoOutputsInEitherOrder               two different outputs can be routed in either order
@@ -23,6 +24,9 @@ use Rattle.fabric.specs.Plans.{accepted, makeable_of, none_sets}
 
 abbrev pub OnlyTheFeedingRelayIsClosed : Meaning → ℕ → ℕ → Type 0
 OnlyTheFeedingRelayIsClosed m o row = (j : ℕ) → 1 ≤ j → is_on row j ≡ (j == m.feeding o)
+
+abbrev pub EachOutputIsOnInputOne : Meaning → Type 0
+EachOutputIsOnInputOne m = (o : ℕ) → within o m.outputs ≡ true → m.feeding o ≡ 1
 
 abbrev pub SwappedTwiceIsTheFabricBelow : Type 0
 SwappedTwiceIsTheFabricBelow = (m : Meaning) (p q : ℕ) → swapped (swapped m p q) p q ≡ m

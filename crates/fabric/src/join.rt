@@ -6,7 +6,7 @@ ghost use Rattle.fabric.specs.Kinds.{is_second, side_of, chosen, join_meaning};
 ghost use Rattle.fabric.specs.Laws.{InputsBehaveAsInTheirFabrics};
 ghost use Rattle.fabric.specs.Soundness.{join_sound};
 
-use crate::{Fabric, MOST_INPUTS, RouteFault, is_within};
+use crate::{Fabric, MOST_INPUTS, MOST_OUTPUTS, RouteFault, is_within};
 
 #[derive(Clone, Copy, PartialEq, Eq, Debug)]
 pub enum Side {
@@ -20,7 +20,7 @@ pub struct Join<F, G> {
     first: F,
     second: G,
     // Which of the two is selected for output 1, 2 and so on.
-    selected: [Side; 256],
+    selected: [Side; MOST_OUTPUTS as usize],
 }
 
 impl<F: Fabric, G: Fabric> Join<F, G> {
@@ -33,7 +33,7 @@ impl<F: Fabric, G: Fabric> Join<F, G> {
         Join {
             first,
             second,
-            selected: [Side::First; 256],
+            selected: [Side::First; MOST_OUTPUTS as usize],
         }
     }
 

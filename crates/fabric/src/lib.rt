@@ -1,4 +1,4 @@
-// Fabrics of a crosspoint switch: what every fabric means, and the kinds that we have.
+// Fabrics of a crosspoint switch: what every fabric means, and the kinds of fabric in this crate.
 #![tactic(auto)]
 
 ghost use Rattle.std.specs.Prelude.{◌≡◌};
@@ -24,8 +24,9 @@ const MOST_INPUTS: u16 = 999;
 
 const MOST_OUTPUTS: u16 = 256;
 
-// Something that feeds each of its outputs from one of its inputs. Questions change nothing.
+// A fabric feeds each of its outputs from one of its inputs. Only `route` changes it.
 // An output and an input stay two numbers: a struct is no plainer, since each is judged by a count of its own.
+// The place of an output is written out, and is no table by number: no plainer, since it is read only for an output found inside the count, and a table would test again.
 pub trait Fabric {
     ghost meaning: { Self → Meaning };
 

@@ -1,8 +1,7 @@
 // A patch field of four inputs and three outputs. The cord of an output is short: it reaches the input of its own number and the
 // next one, and no other.
 ghost use Rattle.std.specs.Prelude.{◌≡◌};
-ghost use Rattle.fabric_example.specs.Patches.{patch_meaning, new_patch};
-ghost use Rattle.std.proofs.Common.{rules};
+ghost use Rattle.fabric_example.specs.Patches.{patch_meaning, new_patch, patch_sound};
 
 use fabric::{Fabric, RouteFault, is_within};
 
@@ -13,7 +12,7 @@ const OUTPUTS: u16 = 3;
 #[derive(Drop)]
 pub struct PatchField {
     // Whether the cord of output 1, 2 and 3 is in the next input.
-    next: [bool; 3],
+    next: [bool; OUTPUTS as usize],
 }
 
 impl PatchField {
@@ -21,7 +20,9 @@ impl PatchField {
     pub fn new() -> PatchField
         ensures { patch_meaning result ≡ new_patch }
     {
-        PatchField { next: [false; 3] }
+        PatchField {
+            next: [false; OUTPUTS as usize],
+        }
     }
 }
 
@@ -36,7 +37,7 @@ impl Default for PatchField {
 impl Fabric for PatchField {
     ghost meaning = { patch_meaning };
 
-    ghost sound = { Prim.search rules };
+    ghost sound = { patch_sound };
 
     fn inputs(&self) -> u16 {
         INPUTS

@@ -41,13 +41,14 @@ mod tests {
 
     #[test]
     fn five_routings(rt: HostRuntime) {
-        assert!(rt; routed() == (3, 2, 9, 18));
+        assert_eq!(rt; routed(), (3, 2, 9, 18));
     }
 
     #[test]
     fn two_refusals(rt: HostRuntime) {
-        let (first, second) = refused();
-        assert!(rt; matches!(first, Err(RouteFault::OutOfRange)));
-        assert!(rt; matches!(second, Err(RouteFault::CannotBeMade)));
+        assert_eq!(rt;
+            refused(),
+            (Err(RouteFault::OutOfRange), Err(RouteFault::CannotBeMade))
+        );
     }
 }

@@ -1,14 +1,23 @@
 // A bank before service: its size, and which of its relays are bad.
 ghost use Rattle.std.specs.Prelude.{◌≡◌, true, ◌&&◌};
 ghost use Rattle.fabric.specs.Meaning.{within};
-ghost use Rattle.fabric.specs.Banks.{new_bank, without, marked};
-ghost use Rattle.fabric.specs.Kinds.{setup_meaning, bank_meaning};
+ghost use Rattle.fabric.specs.Banks.{AllOnFirst, new_bank, without, marked};
 
 use super::row::{RelayRow, relay};
-use super::{BankSetup, RelayBank};
+use super::{MOST_RELAYS, RelayBank};
 use crate::size::Size;
 
+// A bank before service, when relays can be marked bad.
+#[derive(Drop)]
+pub struct BankSetup {
+    bank: RelayBank,
+    ghost unrouted: { AllOnFirst bank.size.outputs bank.rows },
+}
+
 impl BankSetup {
+    ghost use Rattle.fabric.specs.Kinds.{setup_meaning, bank_meaning};
+    ghost use Rattle.fabric.specs.Laws.{EachOutputIsOnInputOne};
+
     // A bank with no relay marked bad. A size outside the limits is taken as the nearest limit.
     pub fn new(inputs: u16, outputs: u16) -> BankSetup
         ensures { setup_meaning result ≡ new_bank inputs outputs }
@@ -16,7 +25,7 @@ impl BankSetup {
         BankSetup {
             bank: RelayBank {
                 size: Size::nearest(inputs, outputs),
-                rows: [RelayRow { closed: 1, bad: 0 }; 16],
+                rows: [RelayRow { closed: 1, bad: 0 }; MOST_RELAYS as usize],
             },
         }
     }
@@ -32,7 +41,8 @@ impl BankSetup {
 
     // Begins service, with every output on input 1, also where that relay is bad.
     pub fn into_service(self) -> RelayBank
-        ensures { bank_meaning result ≡ setup_meaning self }
+        ensures meaning { bank_meaning result ≡ setup_meaning self }
+        ensures law { EachOutputIsOnInputOne (bank_meaning result) }
     {
         self.bank
     }

@@ -1,7 +1,7 @@
 -- One more bit of the marks is one pair less.
 use Rattle.std.proofs.Common.{arith}
 use Rattle.fabric.proofs.BankLaws.{bank_without}
-use Rattle.fabric.proofs.bank.BankSetup.mark.Goals as goal
+use Rattle.fabric.proofs.bank.setup.BankSetup.mark.Goals as goal
 
 pub returns : goal.returns
 returns c =

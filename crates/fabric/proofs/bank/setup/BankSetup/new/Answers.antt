@@ -2,7 +2,7 @@
 use Rattle.std.proofs.Common.{◌∙◌, ap₂}
 use Rattle.fabric.specs.Cards.{started}
 use Rattle.fabric.proofs.BankLaws.{start_closed, start_on_first, start_means}
-use Rattle.fabric.proofs.bank.BankSetup.new.Goals as goal
+use Rattle.fabric.proofs.bank.setup.BankSetup.new.Goals as goal
 
 pub invariant_of-result : goal.invariant_of-result
 invariant_of-result c = let s = c.nearest.result in record { one = start_closed s.inputs s.outputs s.some_inputs s.few_outputs }
