@@ -1,4 +1,4 @@
--- The bytes of headers, the numbers of refusals, and what the calls of drafts and sealed replies answer.
+-- The bytes of headers, the numbers of refusals, and what the methods of drafts and sealed replies answer.
 --
 --   header_byte        the byte of a header: ACK is 06, NAK is 15
 --   header_of_byte b   the header whose byte is b, or a refusal that says b

@@ -1,7 +1,11 @@
 // The fields of packets and replies. A reader takes its field from the front of a slice and hands back the rest;
 // a writer gives the bytes of a number, if it fits.
+// Digits are written by hand: the unit allocates nothing, and a field is an array.
 ghost use Rattle.std.specs.Prelude.{◌≡◌, ◌<◌};
 ghost use Rattle.wire.specs.Fields.{field, behind, read_digit, read_number, read_hex, read_mark, read_colon, hex_value, one_digit, three_digits, hex_digit, two_hex, if_below, DigitReadsBack, NumberReadsBack, HexReadsBack};
+
+// How many bytes a name or a password has at the most.
+pub const MOST_TEXT: usize = 10;
 
 // One decimal digit.
 pub fn read_digit(s: &[u8]) -> Option<(u8, &[u8])>
@@ -19,7 +23,7 @@ pub fn read_number(s: &[u8]) -> Option<(u16, &[u8])>
 {
     match s {
         [a @ b'0'..=b'9', b @ b'0'..=b'9', c @ b'0'..=b'9', rest @ ..] => {
-            let n = (*a - b'0') as u16 * 100 + (*b - b'0') as u16 * 10 + (*c - b'0') as u16;
+            let n = u16::from(*a - b'0') * 100 + u16::from(*b - b'0') * 10 + u16::from(*c - b'0');
             Some((n, rest))
         }
         _ => None,
