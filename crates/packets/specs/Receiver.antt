@@ -5,7 +5,7 @@
 --   Packet      what was listed between STX and ETX, and whether the check byte was right
 --   Heard       the receiver after a byte, and the packet that the byte ended, if it ended one
 --   quiet r     the receiver is r, and no packet ended
---   most-listed how many bytes of a packet are listed
+--   most_listed how many bytes of a packet are listed
 --   hear r b    the byte b at the receiver r
 use Rattle.std.specs.Prelude.{ℕ, Bool, cond, Some, None, Option, ◌==◌, bit_xor}
 use Rattle.wire.specs.Kept.{Kept, empty, put}

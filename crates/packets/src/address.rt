@@ -12,6 +12,7 @@ const EVERY_UNIT: u8 = 0xFF;
 pub fn is_addressed(unit: u8, address: AddressBytes) -> bool
     ensures { result ≡ matches unit address.high address.low }
 {
+    // A match: is_some_and was tried, and its proof does not close at half of the checker's limits.
     match read_hex(&[address.high, address.low]) {
         Some((addressed, _)) => addressed == EVERY_UNIT || addressed == unit,
         None => false,

@@ -42,7 +42,7 @@ pub enum Command<'a> {
     LockEthernet,
     // ELP
     SetPassword { password: &'a [u8] },
-    // ZA
+    // ZA. The bit is no `bool`: the rules judge later whether a digit is in range, and with another letter.
     SetMask { group: u8, bit: u8, output: u16 },
     // ZC
     AskLogin,

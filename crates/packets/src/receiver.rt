@@ -1,7 +1,6 @@
 // The receiver of a line: STX starts a packet, ETX ends its bytes, and the next byte is its check byte.
 ghost use Rattle.std.specs.Prelude.{◌≡◌};
 ghost use Rattle.packets.specs.Receiver.{idle, hear};
-ghost use Rattle.packets.specs.Receiving.{receiver, packet_if};
 ghost use Rattle.packets.specs.Runs.{PacketsAreFramed, CheckByteComesFirst, NoPacketWithoutSTX, ListedBytesArePlain};
 
 use crate::packet::{Packet, PacketBytes};
@@ -18,12 +17,26 @@ enum Phase {
     Awaiting { list: PacketBytes, check: u8 },
 }
 
+// No `impl Model`: a model of a `Copy` type has to give back all fields (`inverse`), which is no plainer.
 #[derive(Clone, Copy)]
 pub struct Receiver {
     phase: Phase,
 }
 
+// Between packets.
+impl Default for Receiver {
+    ghost use Rattle.packets.specs.Receiving.{receiver};
+
+    ghost is_default = { λ r. receiver r ≡ idle };
+
+    fn default() -> Self {
+        Receiver::new()
+    }
+}
+
 impl Receiver {
+    ghost use Rattle.packets.specs.Receiving.{receiver, packet_if};
+
     pub fn new() -> Receiver
         ensures { receiver result ≡ idle }
     {

@@ -4,9 +4,7 @@ ghost use Rattle.wire.specs.Fields.{short_text, behind};
 ghost use Rattle.packets.specs.Data.{one_number, two_numbers, mask_data, at_colon, login_data};
 ghost use Rattle.packets.specs.Decoding.{two_parts};
 
-use wire::fields::{read_colon, read_digit, read_number};
-
-const MOST_TEXT: usize = 10;
+use wire::fields::{MOST_TEXT, read_colon, read_digit, read_number};
 
 // Three digits.
 pub(crate) fn one_number(s: &[u8]) -> Option<u16>
@@ -55,9 +53,6 @@ pub(crate) fn login_data(s: &[u8]) -> Option<(&[u8], &[u8])>
     ensures { two_parts result ≡ login_data s.now }
 {
     let (name, password) = at_colon(read_colon(s)?)?;
-    if (1..=MOST_TEXT).contains(&name.len()) && password.len() <= MOST_TEXT {
-        Some((name, password))
-    } else {
-        None
-    }
+    let fit = (1..=MOST_TEXT).contains(&name.len()) && password.len() <= MOST_TEXT;
+    fit.then_some((name, password))
 }
