@@ -34,9 +34,7 @@ mod tests {
 
     #[test]
     fn queue_is_asked_for(rt: HostRuntime) -> Result<(), Fail> {
-        let Some(packet) = packet_of(&[0x02, 0x30, 0x30, 0x51, 0x03, 0x50]) else {
-            return Err(Fail::new("no packet"));
-        };
+        let packet = packet_of(&[0x02, 0x30, 0x30, 0x51, 0x03, 0x50]).ok_or("no packet")?;
         let parts = packet.parts().ok_or("no parts")?;
         assert!(rt; is_addressed(0x00, parts.address));
         assert!(rt; matches!(command_in(&packet, parts.body), Ok(Command::ReadQueue)));
@@ -45,9 +43,8 @@ mod tests {
 
     #[test]
     fn input_of_output_87_is_asked_for(rt: HostRuntime) -> Result<(), Fail> {
-        let Some(packet) = packet_of(&[0x02, 0x43, 0x30, 0x4F, 0x30, 0x38, 0x37, 0x03, 0x02]) else {
-            return Err(Fail::new("no packet"));
-        };
+        let bytes = [0x02, 0x43, 0x30, 0x4F, 0x30, 0x38, 0x37, 0x03, 0x02];
+        let packet = packet_of(&bytes).ok_or("no packet")?;
         let parts = packet.parts().ok_or("no parts")?;
         assert!(rt; is_addressed(0xC0, parts.address));
         let Ok(Command::AskInput { output }) = command_in(&packet, parts.body) else {
@@ -77,15 +74,15 @@ mod tests {
             locked: true,
             mask: 0xA5,
         };
-        let written = write_reply(address, &reply);
-        let Ok(sealed) = written else {
-            return Err(Fail::new("not written"));
-        };
-        let Ok(received) = read_reply(sealed.as_bytes()) else {
-            return Err(Fail::new("not read"));
-        };
-        assert_eq!(rt; received.address.high, b'C');
-        assert_eq!(rt; received.address.low, b'0');
+        let sealed = write_reply(address, &reply).map_err(|_| "not written")?;
+        let received = read_reply(sealed.as_bytes()).map_err(|_| "not read")?;
+        assert_eq!(rt;
+            received.address,
+            AddressBytes {
+                high: b'C',
+                low: b'0',
+            }
+        );
         let Reply::Status {
             input,
             locked,
@@ -109,13 +106,9 @@ mod tests {
             output: 6,
             input: 2,
         });
-        let Ok(sealed) = write_reply(UNIT_00, &Reply::Changes { queue }) else {
-            return Err(Fail::new("not written"));
-        };
+        let sealed = write_reply(UNIT_00, &Reply::Changes { queue }).map_err(|_| "not written")?;
         assert_eq!(rt; sealed.as_bytes(), &TWO_CHANGES[..]);
-        let Ok(received) = read_reply(&TWO_CHANGES) else {
-            return Err(Fail::new("not read"));
-        };
+        let received = read_reply(&TWO_CHANGES).map_err(|_| "not read")?;
         let Reply::Changes { queue } = received.reply else {
             return Err(Fail::new("another reply"));
         };
@@ -143,15 +136,15 @@ mod tests {
     fn wrong_check_byte_is_refused(rt: HostRuntime) {
         let mut bytes = TWO_CHANGES;
         bytes[18] = 0x67;
-        assert!(rt; matches!(read_reply(&bytes), Err(ReadFault::WrongCheckByte)));
+        assert_eq!(rt; read_reply(&bytes).err(), Some(ReadFault::WrongCheckByte));
     }
 
     #[test]
     fn sixtieth_byte_and_short_buffer_are_refused(rt: HostRuntime) -> Result<(), Fail> {
         let mut draft = Draft::new(Header::Ack, UNIT_00);
-        let Ok(()) = draft.add_all(&[b'.'; 59]) else {
-            return Err(Fail::new("59 bytes were refused"));
-        };
+        draft
+            .add_all(&[b'.'; 59])
+            .map_err(|_| "59 bytes were refused")?;
         let Err(fault) = draft.add(b'.') else {
             return Err(Fail::new("a sixtieth byte was taken"));
         };
@@ -159,7 +152,7 @@ mod tests {
         let sealed = draft.seal();
         assert_eq!(rt; sealed.as_bytes().len(), 64);
         let mut buffer = [0; 63];
-        assert!(rt; matches!(sealed.copy_to(&mut buffer), Err(CopyFault::ShortBuffer)));
+        assert_eq!(rt; sealed.copy_to(&mut buffer), Err(CopyFault::ShortBuffer));
         assert_eq!(rt; buffer, [0; 63]);
         Ok(())
     }

@@ -1,16 +1,22 @@
 -- The entries of a queue, written one behind the other, and read so.
-use Rattle.std.proofs.Common.{◌≡◌, ℕ, zero, suc, ◌+◌, ◌-◌, ◌*◌, ◌<◌, ◌≤◌, Bool, true, false, cond, eqb, ltb, leb, List, [], ◌∷◌, ◌++◌, length, get_or, Some, None, Decides, Option, sym, refl, ap, ◌∙◌, arith, length-append}
+use Rattle.std.proofs.Common.{◌≡◌, ℕ, zero, suc, ◌+◌, ◌-◌, ◌*◌, ◌<◌, ◌≤◌, Bool, true, false, cond, eqb, ltb, List, [], ◌∷◌, ◌++◌, length, get_or, Some, None, Decides, Option, Result, sym, refl, ap, ◌∙◌, subst, arith, length-append}
 use Rattle.std.specs.List.{AllByRecursion}
 use Rattle.std.proofs.lemmas.List.{append-nil, append_assoc}
 use Rattle.std.proofs.lemmas.Option.{none-some, cond_some}
 use Rattle.std.proofs.lemmas.Bool.Decides.{Decides-and, Decides-ltb}
 use Rattle.std.proofs.lemmas.Bool.{lt-ltb, le-leb, cond-true}
 use Rattle.wire.specs.Fields.{Field, three_digits, read_number, then}
-use Rattle.wire.specs.Frames.{Frame, added}
+use Rattle.std.specs.Bool.{then_some}
+use Rattle.std.specs.Result.{IsOk}
+use Rattle.wire.specs.Frames.{Frame, added, fits}
+use Rattle.wire.specs.Drafts.{add_answer}
+use Rattle.wire.specs.declared.reply.DraftFault.{DraftFault}
+use Rattle.wire.specs.declared.list.KeptList.{KeptList}
+use Rattle.replies.specs.Queues.{queued}
 use Rattle.replies.specs.declared.change.Change.{Change}
 use Rattle.wire.specs.Kept.{Kept, empty, put}
 use Rattle.replies.specs.Replies.{entry_digits, small_change, SmallChange, with_entry, read_entries}
-use Rattle.replies.specs.Replying.{behind_entry, put_if, entered_at, entered}
+use Rattle.replies.specs.Replying.{behind_entry, put_if, entered_at, entered, changes_of, queue_marked}
 
 -- a Q answer that counts n entries, so far as the entries cs are written
 abbrev pub entries_frame : ℕ → ℕ → ℕ → List Change → Frame
@@ -27,10 +33,16 @@ pub entries-length : (cs : List Change) → length (entry_digits cs) ≡ 6 * len
 entries-length [] = refl
 entries-length (c ∷ cs) = omega (arith, entries-length cs)
 
+-- one entry more has room behind fewer than eight
+entry_fits : (h l n : ℕ) (cs : List Change) (c : Change) → length cs < 8 → fits (entries_frame h l n cs) (one_entry c) ≡ true
+entry_fits h l n cs c few = le-leb _ _ (omega (arith, entries-length cs))
+
+pub entry_taken : (f : Frame) (h l n : ℕ) (cs : List Change) (c : Change) (xs : List ℕ) (o : Result (Unit {0}) DraftFault) → f ≡ entries_frame h l n cs → length cs < 8 → xs ≡ one_entry c → o ≡ add_answer f xs → IsOk o
+entry_taken f h l n cs c xs o e few x a = subst IsOk (sym (a ∙ (λ i. add_answer (e i) (x i)) ∙ cond-true _ _ _ (entry_fits h l n cs c few))) refl
+
 pub one_more : (f g : Frame) (h l n : ℕ) (cs : List Change) (c : Change) (xs : List ℕ) → f ≡ entries_frame h l n cs → length cs < 8 → xs ≡ one_entry c → g ≡ added f xs → g ≡ entries_frame h l n (cs ++ c ∷ [])
 one_more f g h l n cs c xs e few x a =
-    let room : leb (length (entries_frame h l n cs).body + length (one_entry c)) 59 ≡ true = le-leb _ _ (omega (arith, entries-length cs)) in
-    a ∙ (λ i. added (e i) (x i)) ∙ cond-true _ _ _ room ∙ ap (λ (b : List ℕ). record { header = 6; high = h; low = l; body = 81 ∷ (48 + n) ∷ b }) (sym (entries-push cs c))
+    a ∙ (λ i. added (e i) (x i)) ∙ cond-true _ _ _ (entry_fits h l n cs c few) ∙ ap (λ (b : List ℕ). record { header = 6; high = h; low = l; body = 81 ∷ (48 + n) ∷ b }) (sym (entries-push cs c))
 
 pub small-push : (cs : List Change) (c : Change) → AllByRecursion SmallChange cs → SmallChange c → AllByRecursion SmallChange (cs ++ c ∷ [])
 small-push [] c a s = (s, tt)
@@ -118,3 +130,12 @@ pub finished : (n i : ℕ) (cs : List Change) (xs : List ℕ) (b : Bool) → n �
 finished n i cs xs b h e =
     let same : n - i ≡ 0 = omega arith in
     all_read cs b ∙ ap (λ (t : Bool). prefixed cs (cond t (Some []) None)) e ∙ ap (λ (m : ℕ). prefixed cs (read_entries m xs)) (sym same)
+
+-- a queue that was read is told if nothing is left
+pub queue_told : (b : Bool) (q : KeptList Change 8) → changes_of (then_some b q) ≡ cond b (Some (queued q).items) None
+queue_told true q = refl
+queue_told false q = refl
+
+pub unmarked_told : (b : Bool) (q : KeptList Change 8) → (queued q).overrun ≡ false → queue_marked (then_some b q) ≡ false
+unmarked_told true q e = e
+unmarked_told false q e = refl

@@ -1,13 +1,12 @@
 -- The test of a reply is passed exactly if its numbers fit their places; what was written is what the test says, and its body is short.
-use Rattle.std.proofs.Common.{◌≡◌, ℕ, ◌≤◌, Bool, true, false, cond, ◌&&◌, ltb, leb, List, length, Ok, Err, Decides, sym, refl, arith}
+use Rattle.std.proofs.Common.{◌≡◌, ℕ, ◌≤◌, Bool, true, false, cond, ◌&&◌, ltb, leb, List, length, Some, None, Decides, sym, refl, arith}
 use Rattle.std.specs.List.{AllByRecursion}
 use Rattle.std.proofs.lemmas.Bool.{leb-true, le-leb, cond-true}
 use Rattle.std.proofs.lemmas.Bool.Decides.{Decides-and, Decides-ltb, Decides-like}
 use Rattle.std.proofs.ByRecursion.{Decides-by_and}
 use Rattle.replies.specs.declared.change.Change.{Change}
-use Rattle.replies.specs.declared.reply.WriteFault.TheVariants.{NumberTooLarge}
 use Rattle.replies.specs.Replies.{Contents, keypad_locked, keypad_unlocked, output_locked, output_set, output_unlocked, ethernet_changed, mask_set, flags, version, keypad_state, feeding_input, status, changes, login, logged_in, Reply, ack, nak, contents_bytes, longest_body, reply_bytes, small_change, all_small, fits_contents, fits_reply, SmallChange, FitsContents, Fits, TestTellsWhatFits, RepliesAreShort}
-use Rattle.replies.specs.Replying.{write_answer}
+use Rattle.replies.specs.Replying.{written_if}
 use Rattle.replies.proofs.Entries.{entries-length, small}
 
 decides_leb : (a b : ℕ) → Decides (leb a b) (a ≤ b)
@@ -42,13 +41,13 @@ pub test_tells : (r : Reply) → TestTellsWhatFits r
 test_tells (ack c) = contents_test c
 test_tells (nak x) = always
 
-pub written : (h l : ℕ) (r : Reply) → Fits r → Ok (reply_bytes h l r) ≡ write_answer h l r
+pub written : (h l : ℕ) (r : Reply) → Fits r → Some (reply_bytes h l r) ≡ written_if h l r
 written h l r fit = sym (cond-true _ _ _ ((test_tells r).1 fit))
 
-pub refused : (h l : ℕ) (r : Reply) → (Fits r → ⊥) → Err NumberTooLarge ≡ write_answer h l r
+pub refused : (h l : ℕ) (r : Reply) → (Fits r → ⊥) → None ≡ written_if h l r
 refused h l r unfit = by (fits_reply r) (test_tells r).0
   where
-    by : (b : Bool) → (b ≡ true → Fits r) → Err NumberTooLarge ≡ cond b (Ok (reply_bytes h l r)) (Err NumberTooLarge)
+    by : (b : Bool) → (b ≡ true → Fits r) → None ≡ cond b (Some (reply_bytes h l r)) None
     by true fit = absurd (unfit (fit refl))
     by false fit = refl
 

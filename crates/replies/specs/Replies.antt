@@ -18,13 +18,13 @@
 --   with_entry o i cs       the changes cs, if there are any, behind one of the output o to the input i
 --   read_entries n          the n entries of Q, and nothing behind them
 --   changes_if              entries, if they were read, as an answer
---   read_changes            what the bytes behind the letter of Q say: as many entries as the digit counts, at most most-queued
+--   read_changes            what the bytes behind the letter of Q say: as many entries as the digit counts, at most most_queued
 --   read_keypad             what the bytes behind the letters of KS say
 --   read_input              what the bytes behind the letter of O say
 --   read_status             what the bytes behind the letters of OS say
 --   read_model              the version and model behind the letter of F: the bytes behind them
 --   read_version            what the bytes behind these say
---   login_if_short          an answer to ZC whose name has at most most-text bytes
+--   login_if_short          an answer to ZC whose name has at most most_text bytes
 --   read_login              what the bytes behind the letters of ZC say
 --   read_logged_in          what the bytes behind the letters of ZI say
 --   answers                 the letters of each answer, with what the bytes behind them say

@@ -1,6 +1,7 @@
 -- What the replies of the code say.
 --
 --   reply_of r         what the reply r says
+--   written_if h l r   the bytes of the reply r with the address bytes h and l, where its numbers fit their places
 --   write_answer h l r the bytes of the reply r with the address bytes h and l, where its numbers fit their places; else a refusal
 --   changes_of         the changes of a queue that was read, if one was
 --   behind_entry       the bytes behind an entry of Q
@@ -47,6 +48,9 @@ reply_of MaskSet = ack mask_set
 reply_of (Login u g n) = ack (login u g (text n))
 reply_of (LoggedIn u g) = ack (logged_in u g)
 reply_of (Refused x) = nak x
+
+abbrev pub written_if : ℕ → ℕ → Reply → Option (List ℕ)
+written_if h l r = cond (fits_reply r) (Some (reply_bytes h l r)) None
 
 abbrev pub write_answer : ℕ → ℕ → Reply → Result (List ℕ) WriteFault
 write_answer h l r = cond (fits_reply r) (Ok (reply_bytes h l r)) (Err NumberTooLarge)

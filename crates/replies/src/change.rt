@@ -8,5 +8,8 @@ pub struct Change {
     pub input: u16,
 }
 
-// The first eight changes, oldest first, and whether one more came.
-pub type ChangeQueue = KeptList<Change, 8>;
+// How many changes a queue keeps.
+pub const MOST_QUEUED: usize = 8;
+
+// The first changes, oldest first, and whether one more came.
+pub type ChangeQueue = KeptList<Change, MOST_QUEUED>;

@@ -55,7 +55,7 @@ pub enum Reply {
     EthernetChanged,
     // ZA
     MaskSet,
-    // ZC
+    // ZC. Nobody is user 0, and no `None`: the protocol has two digits there, and a reader takes any.
     Login {
         user: u8,
         group: u8,

@@ -1,14 +1,13 @@
 // How a reply is read.
 ghost use Rattle.std.specs.Prelude.{◌≡◌, ◌≤◌, false};
 ghost use Rattle.wire.specs.Fields.{behind, ended, past, field};
-ghost use Rattle.replies.specs.Replies.{ack, acked, read_locked, read_flags, read_keypad, read_input, read_status, read_version, read_model, read_entries, read_changes, read_login, read_logged_in, read_contents, read_letter, read_body, read_reply, OnlyWrittenRepliesAreRead};
+ghost use Rattle.replies.specs.Replies.{acked, read_locked, read_flags, read_keypad, read_input, read_status, read_version, read_model, read_entries, read_changes, read_login, read_logged_in, read_contents, read_letter, read_body, read_reply, OnlyWrittenRepliesAreRead};
 ghost use Rattle.replies.specs.Queues.{queued, most_queued};
-ghost use Rattle.replies.specs.Replying.{behind_entry, entered};
-ghost use Rattle.replies.specs.Replying.{changes_of, reply_of, IsReadAs, reply_result, received, queue_marked, marked, marked_result, received_marked};
+ghost use Rattle.replies.specs.Replying.{behind_entry, entered, changes_of, reply_of, IsReadAs, reply_result, received, queue_marked, marked, marked_result, received_marked};
 
 use super::writing::flag_byte;
 use super::{ReadFault, Received, Reply};
-use crate::change::{Change, ChangeQueue};
+use crate::change::{Change, ChangeQueue, MOST_QUEUED};
 use crate::text::ShortText;
 use wire::address::AddressBytes;
 use wire::control::ETX;
@@ -31,7 +30,7 @@ fn bare(reply: Reply, rest: &[u8]) -> Option<Reply>
     requires { marked reply ≡ false }
     ensures { IsReadAs result (ended (reply_of reply) rest.now) }
 {
-    if rest.is_empty() { Some(reply) } else { None }
+    rest.is_empty().then_some(reply)
 }
 
 fn read_flags(rest: &[u8]) -> Option<Reply>
@@ -53,6 +52,7 @@ fn read_flags(rest: &[u8]) -> Option<Reply>
     })
 }
 
+// Two readers only have one shape: a function over the field and the reply would serve no third, so it is no plainer.
 fn read_keypad(rest: &[u8]) -> Option<Reply>
     ensures { IsReadAs result (acked (read_keypad rest.now)) }
 {
@@ -130,14 +130,14 @@ fn read_entries(n: u8, s: &[u8]) -> Option<ChangeQueue>
     for _read in 0..n {
         rest = read_entry(&mut queue, rest)?;
     }
-    if rest.is_empty() { Some(queue) } else { None }
+    rest.is_empty().then_some(queue)
 }
 
 fn read_changes(rest: &[u8]) -> Option<Reply>
     ensures { IsReadAs result (acked (read_changes rest.now)) }
 {
     let (n, entries) = read_digit(rest)?;
-    if n > 8 {
+    if usize::from(n) > MOST_QUEUED {
         return None;
     }
     let queue = read_entries(n, entries)?;

@@ -1,12 +1,12 @@
 // How a reply is written.
-ghost use Rattle.std.specs.Prelude.{◌≡◌, ◌+◌, ◌≤◌, ◌&&◌, ◌∷◌, ◌++◌, length, if◌then◌else◌, Some, None, Ok, nat_lt};
+ghost use Rattle.std.specs.Prelude.{◌≡◌, ◌+◌, ◌≤◌, ◌&&◌, ◌∷◌, ◌++◌, length, if◌then◌else◌, Some, None, nat_lt};
 ghost use Rattle.wire.specs.Fields.{three_digits};
 ghost use Rattle.wire.specs.Drafts.{header_byte};
 ghost use Rattle.wire.specs.declared.reply.Header.TheVariants.{Ack};
 ghost use Rattle.wire.specs.Frames.{on_line, most_body};
 ghost use Rattle.replies.specs.Queues.{queued, text};
-ghost use Rattle.replies.specs.Replies.{ack, nak, flags, version, keypad_state, feeding_input, status, changes, login, logged_in, flag_byte, locked_letter, TestTellsWhatFits, RepliesAreShort, ReplyReadsBack};
-ghost use Rattle.replies.specs.Replying.{reply_of, write_answer};
+ghost use Rattle.replies.specs.Replies.{ack, version, feeding_input, status, changes, login, logged_in, flag_byte, locked_letter, TestTellsWhatFits, RepliesAreShort, ReplyReadsBack};
+ghost use Rattle.replies.specs.Replying.{reply_of, written_if, write_answer};
 
 use super::{Reply, WriteFault};
 use crate::change::{Change, ChangeQueue};
@@ -21,8 +21,8 @@ fn sealed_reply(header: Header, address: AddressBytes, front: &[u8], back: &[u8]
     ensures { result ≡ on_line (record { header = header_byte header; high = address.high; low = address.low; body = front.now ++ back.now }) }
 {
     let mut draft = Draft::new(header, address);
-    let _ = draft.add_all(front);
-    let _ = draft.add_all(back);
+    draft.add_all(front).unwrap();
+    draft.add_all(back).unwrap();
     draft.seal()
 }
 
@@ -48,58 +48,44 @@ fn size_digits(inputs: u16, outputs: u16) -> Option<[u8; 7]>
     Some([a, b, c, b'X', d, e, f])
 }
 
-fn write_version(
-    address: AddressBytes,
-    inputs: u16,
-    outputs: u16,
-) -> Result<SealedReply, WriteFault>
-    ensures { result ≡ write_answer address.high address.low (ack (version inputs outputs)) }
+fn write_version(address: AddressBytes, inputs: u16, outputs: u16) -> Option<SealedReply>
+    ensures { result ≡ written_if address.high address.low (ack (version inputs outputs)) }
 {
-    let size = size_digits(inputs, outputs).ok_or(WriteFault::NumberTooLarge)?;
-    Ok(sealed_reply(Header::Ack, address, b"Fv1.00 Pv2.15 XPC1000/", &size))
+    let size = size_digits(inputs, outputs)?;
+    Some(sealed_reply(Header::Ack, address, b"Fv1.00 Pv2.15 XPC1000/", &size))
 }
 
-fn write_input(address: AddressBytes, input: u16) -> Result<SealedReply, WriteFault>
-    ensures { result ≡ write_answer address.high address.low (ack (feeding_input input)) }
+fn write_input(address: AddressBytes, input: u16) -> Option<SealedReply>
+    ensures { result ≡ written_if address.high address.low (ack (feeding_input input)) }
 {
-    let [a, b, c] = three_digits(input).ok_or(WriteFault::NumberTooLarge)?;
-    Ok(sealed_reply(Header::Ack, address, b"O", &[a, b, c]))
+    let [a, b, c] = three_digits(input)?;
+    Some(sealed_reply(Header::Ack, address, b"O", &[a, b, c]))
 }
 
-fn write_status(
-    address: AddressBytes,
-    input: u16,
-    locked: bool,
-    mask: u8,
-) -> Result<SealedReply, WriteFault>
-    ensures { result ≡ write_answer address.high address.low (ack (status input locked mask)) }
+fn write_status(address: AddressBytes, input: u16, locked: bool, mask: u8) -> Option<SealedReply>
+    ensures { result ≡ written_if address.high address.low (ack (status input locked mask)) }
 {
-    let [a, b, c] = three_digits(input).ok_or(WriteFault::NumberTooLarge)?;
+    let [a, b, c] = three_digits(input)?;
     let [d, e] = two_hex(mask);
     let fields = [a, b, c, locked_letter(locked), d, e];
-    Ok(sealed_reply(Header::Ack, address, b"OS", &fields))
+    Some(sealed_reply(Header::Ack, address, b"OS", &fields))
 }
 
-fn write_logged_in(address: AddressBytes, user: u8, group: u8) -> Result<SealedReply, WriteFault>
-    ensures { result ≡ write_answer address.high address.low (ack (logged_in user group)) }
+fn write_logged_in(address: AddressBytes, user: u8, group: u8) -> Option<SealedReply>
+    ensures { result ≡ written_if address.high address.low (ack (logged_in user group)) }
 {
-    let [u] = one_digit(user).ok_or(WriteFault::NumberTooLarge)?;
-    let [g] = one_digit(group).ok_or(WriteFault::NumberTooLarge)?;
-    Ok(sealed_reply(Header::Ack, address, b"ZI:", &[u, b':', g]))
+    let [u] = one_digit(user)?;
+    let [g] = one_digit(group)?;
+    Some(sealed_reply(Header::Ack, address, b"ZI:", &[u, b':', g]))
 }
 
-fn write_login(
-    address: AddressBytes,
-    user: u8,
-    group: u8,
-    name: &ShortText,
-) -> Result<SealedReply, WriteFault>
-    ensures { result ≡ write_answer address.high address.low (ack (login user group (text name.now))) }
+fn write_login(address: AddressBytes, user: u8, group: u8, name: &ShortText) -> Option<SealedReply>
+    ensures { result ≡ written_if address.high address.low (ack (login user group (text name.now))) }
 {
-    let [u] = one_digit(user).ok_or(WriteFault::NumberTooLarge)?;
-    let [g] = one_digit(group).ok_or(WriteFault::NumberTooLarge)?;
+    let [u] = one_digit(user)?;
+    let [g] = one_digit(group)?;
     let front = [b'Z', b'C', b':', u, b':', g, b':'];
-    Ok(sealed_reply(Header::Ack, address, &front, name.as_slice()))
+    Some(sealed_reply(Header::Ack, address, &front, name.as_slice()))
 }
 
 // Output and input of a change, three digits each.
@@ -112,35 +98,34 @@ fn change_digits(change: Change) -> Option<[u8; 6]>
     Some([a, b, c, d, e, f])
 }
 
-fn write_changes(address: AddressBytes, queue: &ChangeQueue) -> Result<SealedReply, WriteFault>
-    ensures { result ≡ write_answer address.high address.low (ack (changes (queued queue.now).items)) }
+fn write_changes(address: AddressBytes, queue: &ChangeQueue) -> Option<SealedReply>
+    ensures { result ≡ written_if address.high address.low (ack (changes (queued queue.now).items)) }
 {
     let changes = queue.as_slice();
     let mut draft = Draft::new(Header::Ack, address);
-    let _ = draft.add_all(&[b'Q', b'0' + changes.len() as u8]);
+    draft.add_all(&[b'Q', b'0' + changes.len() as u8]).unwrap();
     for change in changes {
-        let digits = change_digits(*change).ok_or(WriteFault::NumberTooLarge)?;
-        let _ = draft.add_all(&digits);
+        let digits = change_digits(*change)?;
+        draft.add_all(&digits).unwrap();
     }
-    Ok(draft.seal())
+    Some(draft.seal())
 }
 
-fn write_bare(address: AddressBytes, body: &[u8]) -> Result<SealedReply, WriteFault>
+fn write_bare(address: AddressBytes, body: &[u8]) -> Option<SealedReply>
     requires { length body.now ≤ most_body }
-    ensures { result ≡ Ok (on_line (record { header = header_byte Ack; high = address.high; low = address.low; body = body.now })) }
+    ensures { result ≡ Some (on_line (record { header = header_byte Ack; high = address.high; low = address.low; body = body.now })) }
 {
-    Ok(sealed_reply(Header::Ack, address, body, b""))
+    Some(sealed_reply(Header::Ack, address, body, b""))
 }
 
-// Writes the reply with these address bytes.
-#[tactic(auto, using(crate::proofs::Fitting::test_tells, crate::proofs::Fitting::short, crate::proofs::ReadBack::reads_back))]
+// Writes the reply with these address bytes. One match on the replies: a table of functions is no plainer, since each has fields of its own.
 pub fn write_reply(address: AddressBytes, reply: &Reply) -> Result<SealedReply, WriteFault>
     ensures answer { result ≡ write_answer address.high address.low (reply_of reply.now) }
     ensures test { TestTellsWhatFits (reply_of reply.now) }
     ensures short { RepliesAreShort (reply_of reply.now) }
     ensures law { ReplyReadsBack address.high address.low (reply_of reply.now) }
 {
-    match reply {
+    let sealed = match reply {
         Reply::Flags {
             entries,
             mask,
@@ -164,6 +149,7 @@ pub fn write_reply(address: AddressBytes, reply: &Reply) -> Result<SealedReply, 
         Reply::MaskSet => write_bare(address, b"ZA"),
         Reply::Login { user, group, name } => write_login(address, *user, *group, name),
         Reply::LoggedIn { user, group } => write_logged_in(address, *user, *group),
-        Reply::Refused { letter } => Ok(sealed_reply(Header::Nak, address, &[*letter], b"")),
-    }
+        Reply::Refused { letter } => Some(sealed_reply(Header::Nak, address, &[*letter], b"")),
+    };
+    sealed.ok_or(WriteFault::NumberTooLarge)
 }

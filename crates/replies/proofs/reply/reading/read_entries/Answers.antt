@@ -1,10 +1,11 @@
 -- One entry more is read behind those before it, until none is to be read.
-use Rattle.std.proofs.Common.{◌≡◌, ℕ, suc, ◌+◌, ◌-◌, ◌<◌, true, false, length, sym, refl, ap, ◌∙◌, arith}
+use Rattle.std.proofs.Common.{◌≡◌, ℕ, suc, ◌+◌, ◌-◌, ◌<◌, length, sym, refl, ap, ◌∙◌, arith}
 use Rattle.wire.specs.Kept.{Kept}
 use Rattle.replies.specs.declared.change.Change.{Change}
 use Rattle.replies.specs.Queues.{queued}
 use Rattle.replies.specs.Replies.{read_entries}
-use Rattle.replies.proofs.Entries.{prefixed, entry_read, no_entry, started, finished}
+use Rattle.replies.specs.Replying.{changes_of, queue_marked}
+use Rattle.replies.proofs.Entries.{prefixed, entry_read, no_entry, started, finished, queue_told, unmarked_told}
 use Rattle.replies.proofs.reply.reading.read_entries.Goals as goal
 
 pub loop-read-init : goal.loop-read-init
@@ -38,14 +39,10 @@ returns-in_err-rest c =
       unmarked = refl;
     })
 
-pub returns-then-is_empty : goal.returns-then-is_empty
-returns-then-is_empty c = record {
-  answer = finished c.args.n c.loop-read._read (queued c.loop-read.queue).items c.loop-read.rest.now true c.loop-read-test.false c.if-is_empty.ensures ∙ c.loop-read.invariant.0;
-  unmarked = c.loop-read.invariant.2;
-}
+pub returns-clause-answer : goal.returns-clause-answer
+returns-clause-answer c =
+    let q = c.loop-read.queue in
+    ap changes_of c.then_some.ensures ∙ queue_told c.is_empty.result q ∙ finished c.args.n c.loop-read._read (queued q).items c.loop-read.rest.now c.is_empty.result c.loop-read-test.false c.is_empty.ensures ∙ c.loop-read.invariant.0
 
-pub returns-else-is_empty : goal.returns-else-is_empty
-returns-else-is_empty c = record {
-  answer = finished c.args.n c.loop-read._read (queued c.loop-read.queue).items c.loop-read.rest.now false c.loop-read-test.false c.if-is_empty.ensures ∙ c.loop-read.invariant.0;
-  unmarked = refl;
-}
+pub returns-clause-unmarked : goal.returns-clause-unmarked
+returns-clause-unmarked c = ap queue_marked c.then_some.ensures ∙ unmarked_told c.is_empty.result c.loop-read.queue c.loop-read.invariant.2
