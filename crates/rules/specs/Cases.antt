@@ -5,7 +5,7 @@
 --   answers_to s cs   the replies that the calls cs bring in the state s
 --   small             a unit with address 00 over a card of eight by eight, access off
 --   wide              a unit with address C0 over a card of eight inputs and 100 outputs, access off
---   ask-queue, ask-flags, set-5-to-1, lock-5-on-1, set-5-to-2, wrong-check, other-address, input-of-87
+--   ask_queue, ask_flags, set_5_to_1, lock_5_on_1, set_5_to_2, wrong_check, other_address, input_of_87
 --                     the packets of the cases, byte by byte
 --   WorkedCases       the eight cases
 use Rattle.std.specs.Prelude.{◌≡◌, ℕ, false, List, [], ◌∷◌, ◌++◌}

@@ -12,7 +12,7 @@
 --   UnitIsWhatStands           at every moment the unit is what its history says: receivers, queues, flags, logins, feeding inputs, locks,
 --                              masks, users, keypad and Ethernet lock, password
 --   RightsHoldThroughout       what is accepted is accepted by right
---   Queue-answers-always-make-tables-true, Outputs-always-stay-as-named, Askers-are-always-told, Unit-is-always-what-stands,
+--   QueueAnswersAlwaysMakeTablesTrue, OutputsAlwaysStayAsNamed, AskersAreAlwaysTold, UnitIsAlwaysWhatStands,
 --   RightsAlwaysHold           each of the laws, of all lists of calls
 --   RefusedCallsChangeNothing      a call that is refused by number changes nothing
 --   WithoutAckOnlyTheReceiverChanges        a byte that brings no ACK changes nothing but its port's receiver

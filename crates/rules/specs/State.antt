@@ -11,9 +11,9 @@
 --   mask_byte s o      the group mask of output o as a byte
 --   new_port           a port as service starts: idle, nothing queued, no flag, nobody logged in
 --   service a on m     a unit at address a, with access control on or off, over a fabric that means m
---   with-fabric, with-lock, with-mask, with-keypad, with-ethernet, with-password, with-user, with-ports, with-port
+--   with_fabric, with_lock, with_mask, with_keypad, with_ethernet, with_password, with_user, with_ports, with_port
 --                      the state with that part in place of its own
---   with-receiver, with-queue, with-mask-flag, with-login
+--   with_receiver, with_queue, with_mask_flag, with_login
 --                      the same for a port
 use Rattle.std.specs.Prelude.{ℕ, ◌+◌, Bool, true, false, cond, List, [], None, codes, Option, ◌==◌}
 use Rattle.wire.specs.Kept.{Kept, empty}

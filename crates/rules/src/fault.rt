@@ -6,7 +6,7 @@ ghost use Rattle.std.specs.Prelude.{◌≡◌};
 use packets::packet::PacketFault;
 
 // The causes, in the order in which they are looked for.
-#[derive(Clone, Copy)]
+#[derive(Clone, Copy, PartialEq, Eq, Debug)]
 pub enum CommandFault {
     // The packet is no command.
     Packet(PacketFault),
@@ -14,7 +14,8 @@ pub enum CommandFault {
     OutOfRange,
     // The password of ELD is not the unit's.
     WrongPassword,
-    // The Ethernet lock is on, and the packet came over Ethernet; with the first letter of its command.
+    // The Ethernet lock is on, and the packet came over Ethernet; with the first letter of its command,
+    // a byte, since the rules send it back as it stands.
     EthernetLocked { letter: u8 },
     // The port has no right to the command, or a login names no user.
     NoRight,

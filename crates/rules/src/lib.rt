@@ -10,7 +10,7 @@ pub mod fault;
 pub mod port;
 pub mod refusal;
 
-// The worked cases of the line protocol follow from the rules.
+// The worked cases of the line protocol follow from the rules. A law needs a function to stand on.
 pub fn worked_cases()
     ensures { WorkedCases }
 {}

@@ -40,7 +40,7 @@ impl From<Port> for u8 {
     }
 }
 
-// One value for each port. Three fields and no array, which would be no plainer: a name needs no index, and each value is lent by its own.
+// One value for each port. Three fields and no array, which would be no plainer: a name needs no index, and each value is lent by itself.
 #[derive(Drop)]
 pub struct PerPort<R> {
     pub one: R,

@@ -24,7 +24,7 @@ pub enum Refusal {
 }
 
 impl Refusal {
-    // The number that the cause is known by.
+    // The number that the cause is known by. A method: callers are told the number and need no conversion back, so From is no plainer.
     pub fn number(self) -> u8
         ensures { result ≡ refusal_number self }
     {
