@@ -7,23 +7,20 @@
 --   user_of u        a user's name and password
 --   nobody           a user without a name and a password
 --   users_of us      the users by number
---   port_state r     what a port's record holds
 --   noted c p        the port p with the change c in its queue, if the numbers of c have three digits; else p
 --   logged_in u p    the port p with user u logged in, if u is one of 1 to 8; else p
 use Rattle.std.specs.Prelude.{ℕ, ◌-◌, ◌/◌, ◌%◌, ◌^◌, Bool, true, false, cond, [], Some, ◌==◌, unwrap_or, option_map}
 use Rattle.fabric.specs.Meaning.{within}
 use Rattle.wire.specs.Kept.{put}
 use Rattle.replies.specs.declared.change.Change.{Change}
-use Rattle.replies.specs.Queues.{queued, most_queued, text}
+use Rattle.replies.specs.Queues.{most_queued, text}
 use Rattle.replies.specs.Replies.{small_change}
-use Rattle.packets.specs.Receiving.{receiver}
 use Rattle.rules.specs.State.{User, PortState, with_queue, with_login}
 use Rattle.records.specs.Tables.{value_at}
 use Rattle.records.specs.declared.locks.Locks.{Locks}
 use Rattle.records.specs.declared.masks.Masks.{Masks}
 use Rattle.records.specs.declared.users.User.{User as UserOfCode}
 use Rattle.records.specs.declared.users.Users.{Users}
-use Rattle.records.specs.declared.record.PortRecord.{PortRecord}
 
 abbrev pub locks_of : Locks → ℕ → Bool
 locks_of l o = unwrap_or (value_at l.locked o) false
@@ -45,9 +42,6 @@ nobody = record { name = []; password = [] }
 
 abbrev pub users_of : Users → ℕ → User
 users_of us u = unwrap_or (option_map user_of (value_at us.users u)) nobody
-
-abbrev pub port_state : PortRecord → PortState
-port_state r = record { receiver = receiver r.receiver; queue = queued r.queue; mask_flag = r.mask_flag; login = r.login }
 
 abbrev pub noted : Change → PortState → PortState
 noted c p = cond (small_change c) (with_queue (put most_queued p.queue c) p) p

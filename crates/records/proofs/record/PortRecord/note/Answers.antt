@@ -7,8 +7,8 @@ use Rattle.replies.specs.Replies.{all_small}
 use Rattle.records.proofs.Small.{change_small, small_put}
 use Rattle.records.proofs.record.PortRecord.note.Goals as goal
 
-pub invariant_of-self-clause-small : goal.invariant_of-self-clause-small
-invariant_of-self-clause-small c =
-    let s = c.args.self.now in
-    let small = change_small c.args.change (sym c.if-not-is_small.ensures) in
-    ap (λ (k : Kept Change). all_small k.items) c.put.ensures ∙ small_put c.args.change small most_queued (queued s.queue) s.small
+pub invariant_of-self : goal.invariant_of-self
+invariant_of-self c =
+    let s = c.self.inside in
+    let small = change_small c.args.change (sym c.is_small.ensures ∙ c.if-is_small.true) in
+    (ap (λ (k : Kept Change). all_small k.items) c.put.ensures ∙ small_put c.args.change small most_queued (queued s.queue) c.self.invariant.0, c.self.invariant.1)

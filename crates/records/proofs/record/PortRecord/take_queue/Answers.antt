@@ -10,8 +10,8 @@ use Rattle.records.proofs.record.PortRecord.take_queue.Goals as goal
 
 pub returns-clause-fits : goal.returns-clause-fits
 returns-clause-fits c =
-    let s = c.args.self.now in
+    let s = c.self.inside in
     subst (λ (q : KeptList Change 8). FitsContents (changes (queued q).items)) (sym c.replace.ensures.value) (
       omega (arith, length-take s.queue.used s.queue.cells, s.queue.within),
-      each_small (queued s.queue).items s.small,
+      each_small (queued s.queue).items c.self.invariant.0,
     )

@@ -10,8 +10,6 @@ use Rattle.records.proofs.users.Users.find.Goals as goal
 
 pub returns-clause-answer : goal.returns-clause-answer
 returns-clause-answer c =
-    let us = users_of c.args.self.now in
-    let numbers = YieldsList-from_range_inclusive 1 8 c.new.ensures.start c.new.ensures.end c.new.ensures.exhausted in
     sym (option_map_id c.find.result)
-    ∙ find_from_yields_List (is_user us c.args.name.now c.args.password.now) _ _ c.find.result c.find.ensures.ran numbers (λ x b q k. search rules)
-    ∙ find-first_user us c.args.name.now c.args.password.now user_numbers
+    ∙ find_from_yields_List (is_user (users_of c.args.self.now) c.args.name.now c.args.password.now) _ _ c.find.result c.find.ensures.ran (YieldsList-from_range_inclusive 1 8 c.new.ensures.start c.new.ensures.end c.new.ensures.exhausted) (λ x b q k. search rules)
+    ∙ find-first_user (users_of c.args.self.now) c.args.name.now c.args.password.now user_numbers
