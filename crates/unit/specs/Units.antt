@@ -8,10 +8,9 @@ use Rattle.fabric.specs.Meaning.{Meaning}
 use Rattle.replies.specs.Queues.{text}
 use Rattle.rules.specs.declared.port.Port.{Port}
 use Rattle.rules.specs.PerPort.{set_at, each}
-use Rattle.rules.specs.State.{State, is_locked, feeding, with_ports}
+use Rattle.rules.specs.State.{State, PortState, is_locked, feeding, with_ports}
 use Rattle.rules.specs.Switching.{same, note_if}
-use Rattle.records.specs.declared.record.PortRecord.{PortRecord}
-use Rattle.records.specs.Records.{locks_of, masks_of, users_of, port_state}
+use Rattle.records.specs.Records.{locks_of, masks_of, users_of}
 use Rattle.unit.specs.declared.state.Unit.{Unit}
 
 module _ {F : Type 0} where
@@ -26,10 +25,10 @@ module _ {F : Type 0} where
     ethernet = u.ethernet_locked;
     password = text u.password;
     users = users_of u.users;
-    ports = each port_state u.ports;
+    ports = u.ports;
   }
 
-  abbrev pub with_record : Unit F → Port → PortRecord → Unit F
+  abbrev pub with_record : Unit F → Port → PortState → Unit F
   with_record u p r = record {
     fabric = u.fabric;
     address = u.address;

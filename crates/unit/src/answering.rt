@@ -1,4 +1,4 @@
-// A packet on its way: its address, its command, and the reply.
+// What is done with a packet: its address, its command, and the reply.
 ghost use Rattle.std.specs.Prelude.{◌≡◌, ◌≤◌, true, length, Some, Ok};
 ghost use Rattle.wire.specs.Frames.{written};
 ghost use Rattle.packets.specs.Commands.{command_in};
@@ -22,6 +22,7 @@ use rules::port::Port;
 use wire::address::AddressBytes;
 
 impl<F: Fabric> Unit<F> {
+    // One match on the commands: a table of functions is no plainer, since each has fields of its own.
     fn carry_out(&mut self, port: Port, command: Command<'_>) -> Result<Reply, CommandFault>
         requires { fits_command (command_of command) ≡ true }
         ensures { Carried (state_of F.meaning self.old) port (command_of command.entry) result (state_of F.meaning self.new) }

@@ -1,4 +1,5 @@
-// What a command is asked before it is carried out.
+// What a command is asked before it is carried out. Checks of one shape stay apart: what they have in common is the call of `check`, and more
+// would be no plainer.
 ghost use Rattle.std.specs.Prelude.{◌≡◌, true, not, ◌&&◌, OnOk};
 ghost use Rattle.fabric.specs.Meaning.{within};
 ghost use Rattle.rules.specs.PerPort.{is_ethernet};
@@ -22,7 +23,7 @@ fn is_ethernet(port: Port) -> bool
 }
 
 // With then_some and ok_or: no plainer, since a bool is first made an Option.
-fn check(passed: bool, fault: CommandFault) -> Result<(), CommandFault>
+pub(crate) fn check<E: Drop>(passed: bool, fault: E) -> Result<(), E>
     ensures { result ≡ checked (unless passed fault) }
 {
     if passed { Ok(()) } else { Err(fault) }

@@ -1,4 +1,5 @@
 // The commands, one method each. A method answers, or tells the cause for which the command is refused; then nothing is changed.
+// Two of one shape, as L and S or KL and KU, stay two: a shared one is no plainer, since each command has its own row in the rules.
 ghost use Rattle.std.specs.Prelude.{◌≡◌, ◌≤◌, length};
 ghost use Rattle.wire.specs.Fields.{most_text};
 ghost use Rattle.packets.specs.Commands.{ask_flags, ask_version, lock_keypad, show_keypad, unlock_keypad, read_queue, lock_ethernet, ask_login, lock_output, set_output, unlock_output, ask_input, ask_status, unlock_ethernet, set_password, set_mask, log_in};
@@ -155,12 +156,11 @@ impl<F: Fabric> Unit<F> {
     // ELD: only the password is asked.
     pub(crate) fn unlock_ethernet(
         &mut self,
-        port: Port,
+        _port: Port,
         password: &[u8],
     ) -> Result<Reply, CommandFault>
-        ensures { Carried (state_of F.meaning self.old) port (unlock_ethernet password.now) result (state_of F.meaning self.new) }
+        ensures { Carried (state_of F.meaning self.old) _port (unlock_ethernet password.now) result (state_of F.meaning self.new) }
     {
-        let _ = port;
         if password != self.password.as_slice() {
             return Err(CommandFault::WrongPassword);
         }
@@ -176,19 +176,16 @@ impl<F: Fabric> Unit<F> {
         Ok(self.login_shown(port))
     }
 
+    // No login is shown as user 0, who has no name.
     fn login_shown(&self, port: Port) -> Reply
         ensures answer { reply_of result ≡ ack (login_shown (state_of F.meaning self.now) (port_at (state_of F.meaning self.now) port).login) }
         ensures fits { Fits (reply_of result) }
     {
-        let login = self.ports.at(port).login();
-        let user = login.unwrap_or(0);
-        let name = login
-            .map(|user| self.users.get(user).name)
-            .unwrap_or_default();
+        let user = self.ports.at(port).login().unwrap_or(0);
         Reply::Login {
             user,
             group: user,
-            name,
+            name: self.users.get(user).name,
         }
     }
 

@@ -1,4 +1,5 @@
 // Why an output was not switched, and how that cause goes up to a packet's reply and to a panel call.
+// Two conversions of one shape: a shared one is no plainer, since a letter and a number are looked up in different tables.
 ghost use Rattle.std.specs.Prelude.{◌≡◌};
 ghost use Rattle.unit.specs.Switches.{command_fault, panel_fault};
 ghost use Rattle.unit.specs.declared.fault.SwitchFault.TheVariants.{Route};
@@ -7,7 +8,7 @@ use fabric::RouteFault;
 use rules::fault::CommandFault;
 use rules::refusal::Refusal;
 
-#[derive(Clone, Copy)]
+#[derive(Clone, Copy, PartialEq, Eq, Debug)]
 pub(crate) enum SwitchFault {
     // The output is locked.
     OutputLocked,

@@ -1,4 +1,4 @@
-// The calls of the lines: a byte, a gap, a hang-up.
+// The calls of the lines: a byte, a gap, a hang-up. Gap and hang-up stay two, as in the rules: a shared one is no plainer.
 ghost use Rattle.std.specs.Prelude.{◌≡◌, length};
 ghost use Rattle.wire.specs.Frames.{written};
 ghost use Rattle.rules.specs.Calls.{byte, gap, hang_up, step, next, byte_event};
@@ -10,6 +10,7 @@ use crate::state::Unit;
 use fabric::Fabric;
 use rules::port::Port;
 use rules::refusal::Refusal;
+use wire::reply::MOST_REPLY;
 
 impl<F: Fabric> Unit<F> {
     // One byte at a port. Returns the length of the reply that is written to the front of the buffer, 0 for none.
@@ -19,7 +20,8 @@ impl<F: Fabric> Unit<F> {
         ensures after { state_of F.meaning self.new ≡ next (state_of F.meaning self.old) (byte port b (length reply.old)) }
         ensures law { KeepsTheLaws (state_of F.meaning self.old) (byte_event port b result reply.new) (state_of F.meaning self.new) }
     {
-        if reply.len() < 64 {
+        // A buffer has to hold any reply, whatever the packet asks.
+        if reply.len() < MOST_REPLY {
             return Err(Refusal::ShortBuffer);
         }
         let port = Port::try_from(port)?;

@@ -1,4 +1,4 @@
-// The calls of the panel: set, lock and unlock an output.
+// The calls of the panel: set, lock and unlock an output. Three of one shape stay three, as in the rules; a shared one is no plainer.
 ghost use Rattle.std.specs.Prelude.{◌≡◌, true, OnOk};
 ghost use Rattle.rules.specs.Calls.{panel_set, panel_lock, panel_unlock, step, next};
 ghost use Rattle.rules.specs.Panel.{panel_refusal};
@@ -8,6 +8,7 @@ ghost use Rattle.unit.specs.Switches.{checked};
 ghost use Rattle.unit.specs.Units.{state_of};
 ghost use Rattle.unit.specs.Calling.{plain_event};
 
+use crate::checks::check;
 use crate::state::Unit;
 use fabric::Fabric;
 use rules::refusal::Refusal;
@@ -18,16 +19,9 @@ impl<F: Fabric> Unit<F> {
         ensures answer { result ≡ checked (panel_refusal (state_of F.meaning self.now) output input) }
         ensures inside { OnOk result (in_range (state_of F.meaning self.now) output input ≡ true) }
     {
-        if !self.is_output(output) {
-            return Err(Refusal::NoSuchOutput);
-        }
-        if !self.is_input(input) {
-            return Err(Refusal::NoSuchInput);
-        }
-        if self.keypad_locked {
-            return Err(Refusal::KeypadLocked);
-        }
-        Ok(())
+        check(self.is_output(output), Refusal::NoSuchOutput)?;
+        check(self.is_input(input), Refusal::NoSuchInput)?;
+        check(!self.keypad_locked, Refusal::KeypadLocked)
     }
 
     // Puts an output on an input.

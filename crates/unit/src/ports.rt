@@ -1,4 +1,6 @@
-// The unit's ports: their records, lent one at a time.
+// The unit's ports: their records, lent one at a time. A method for each change of a record: one that takes the change is no plainer,
+// since its contract would have to say what the closure leaves in the record.
+// What is done at every port is said three times: there are three, each with its name, and a loop over them is no plainer.
 ghost use Rattle.std.specs.Prelude.{◌≡◌, true, Some, None};
 ghost use Rattle.std.specs.Borrow.{sem, follows};
 ghost use Rattle.wire.specs.Kept.{put};

@@ -7,7 +7,8 @@ use replies::text::ShortText;
 use rules::port::PerPort;
 
 // A unit in service over a fabric. The table of its port records is a plain struct, of which one record at a time is lent.
-// No Model: its Value would be the rules' State, which holds functions (locks, masks, users, the fabric's meaning), and a function has no code.
+// No Model: its Value would be the rules' State, which holds functions (locks, masks, the fabric's meaning), and a model's value has to be data.
+// Every call answers with the length of its reply, 0 for none: the interface of the calls fixes one number.
 #[derive(Drop)]
 pub struct Unit<F> {
     pub(crate) fabric: F,

@@ -1,7 +1,8 @@
 // Setting, locking and unlocking an output, as S, L and U and the panel do it.
+// The range is a requires of each: a type for checked outputs is no plainer, since the fabric is asked by number.
 ghost use Rattle.std.specs.Prelude.{◌≡◌, true, not, ◌&&◌, ◌||◌, ◌==◌};
 ghost use Rattle.fabric.specs.Meaning.{within};
-ghost use Rattle.rules.specs.State.{with_lock, with_mask};
+ghost use Rattle.rules.specs.State.{is_locked, feeding, with_lock, with_mask};
 ghost use Rattle.rules.specs.Commands.{do_mask};
 ghost use Rattle.rules.specs.Switching.{same, do_set, do_lock, do_unlock, in_range};
 ghost use Rattle.unit.specs.Switches.{HasOutput, checked, setting_fault, locking_fault, unless_found};
@@ -12,18 +13,20 @@ use crate::state::Unit;
 use fabric::Fabric;
 use replies::change::Change;
 
-// Whether the feeding input or the lock of an output is another than before.
-fn differs(before: u16, input: u16, was: bool, locked: bool) -> bool
-    ensures { result ≡ not (before == input && same was locked) }
-{
-    before != input || was != locked
+// What feeds an output, and its lock. Where either is another than before, the output was changed.
+#[derive(Clone, Copy, PartialEq, Eq, Debug)]
+struct OutputState {
+    input: u16,
+    locked: bool,
 }
 
-// Whether the lock of an output lets it be locked on an input.
-fn may_lock(locked: bool, input: u16, feeding: u16) -> bool
-    ensures { result ≡ (not locked || input == feeding) }
-{
-    !locked || input == feeding
+impl OutputState {
+    // Whether the lock of the output lets it be locked on an input.
+    fn may_be_locked_on(self, input: u16) -> bool
+        ensures { result ≡ (not self.locked || input == self.input) }
+    {
+        !self.locked || input == self.input
+    }
 }
 
 impl<F: Fabric> Unit<F> {
@@ -34,15 +37,28 @@ impl<F: Fabric> Unit<F> {
         self.locks.set(output, locked);
     }
 
-    // The output was on `before` with the lock `was`: the change, if there is one, goes into every queue.
-    fn settle(&mut self, output: u16, before: u16, was: bool)
-        requires { HasOutput (F.meaning self.old.fabric) output }
-        ensures { state_of F.meaning self.new ≡ settled (state_of F.meaning self.old) output before was }
+    fn output_state(&self, output: u16) -> OutputState
+        requires { HasOutput (F.meaning self.now.fabric) output }
+        ensures input { result.input ≡ feeding (state_of F.meaning self.now) output }
+        ensures locked { result.locked ≡ is_locked (state_of F.meaning self.now) output }
     {
-        let input = self.fabric.feeding(output);
-        let locked = self.locks.is_locked(output);
-        if differs(before, input, was, locked) {
-            self.note_at_all(Change { output, input });
+        OutputState {
+            input: self.fabric.feeding(output),
+            locked: self.locks.is_locked(output),
+        }
+    }
+
+    // The output was as in `before`: the change, if there is one, goes into every queue.
+    fn settle(&mut self, output: u16, before: OutputState)
+        requires { HasOutput (F.meaning self.old.fabric) output }
+        ensures { state_of F.meaning self.new ≡ settled (state_of F.meaning self.old) output before.input before.locked }
+    {
+        let now = self.output_state(output);
+        if before != now {
+            self.note_at_all(Change {
+                output,
+                input: now.input,
+            });
         }
     }
 
@@ -51,13 +67,12 @@ impl<F: Fabric> Unit<F> {
         ensures answer { result ≡ checked (setting_fault (state_of F.meaning self.old) output input) }
         ensures after { state_of F.meaning self.new ≡ unless_found (state_of F.meaning self.old) (setting_fault (state_of F.meaning self.old) output input) (do_set (state_of F.meaning self.old) output input) }
     {
-        let was = self.locks.is_locked(output);
-        if was {
+        let before = self.output_state(output);
+        if before.locked {
             return Err(SwitchFault::OutputLocked);
         }
-        let before = self.fabric.feeding(output);
         self.fabric.route(output, input)?;
-        self.settle(output, before, was);
+        self.settle(output, before);
         Ok(())
     }
 
@@ -66,14 +81,13 @@ impl<F: Fabric> Unit<F> {
         ensures answer { result ≡ checked (locking_fault (state_of F.meaning self.old) output input) }
         ensures after { state_of F.meaning self.new ≡ unless_found (state_of F.meaning self.old) (locking_fault (state_of F.meaning self.old) output input) (do_lock (state_of F.meaning self.old) output input) }
     {
-        let was = self.locks.is_locked(output);
-        let before = self.fabric.feeding(output);
-        if !may_lock(was, input, before) {
+        let before = self.output_state(output);
+        if !before.may_be_locked_on(input) {
             return Err(SwitchFault::OutputLocked);
         }
         self.fabric.route(output, input)?;
         self.set_lock(output, true);
-        self.settle(output, before, was);
+        self.settle(output, before);
         Ok(())
     }
 
@@ -81,10 +95,9 @@ impl<F: Fabric> Unit<F> {
         requires { HasOutput (F.meaning self.old.fabric) output }
         ensures { state_of F.meaning self.new ≡ do_unlock (state_of F.meaning self.old) output }
     {
-        let was = self.locks.is_locked(output);
-        let before = self.fabric.feeding(output);
+        let before = self.output_state(output);
         self.set_lock(output, false);
-        self.settle(output, before, was);
+        self.settle(output, before);
     }
 
     // Sets or clears a bit of an output's mask, and raises every port's mask flag if it was another.
@@ -93,8 +106,7 @@ impl<F: Fabric> Unit<F> {
         requires group_value { within group 8 ≡ true }
         ensures { state_of F.meaning self.new ≡ do_mask (state_of F.meaning self.old) output group bit }
     {
-        let altered = self.set_mask_bit(output, group, bit);
-        if altered {
+        if self.set_mask_bit(output, group, bit) {
             self.flag_all();
         }
     }

@@ -1,5 +1,5 @@
 -- The fabric routed, the lock was set, and what changed was noted.
-use Rattle.std.proofs.Common.{◌≡◌, true, not, ◌||◌, eqb, Option, sym, ap, ◌∙◌, rules}
+use Rattle.std.proofs.Common.{◌≡◌, true, Option, sym, ap, ◌∙◌, rules}
 use Rattle.fabric.specs.Meaning.{Meaning, routed}
 use Rattle.fabric.proofs.Means.{after_made}
 use Rattle.rules.specs.State.{with_fabric, with_lock}
@@ -17,9 +17,9 @@ returns-clause-after g c =
     let i = c.args.input in
     let m = s.fabric in
     let made : m.makeable o i ≡ true = search rules in
-    let may : may_lock s o i ≡ true = sym (λ j. not (c.is_locked-was.ensures j) || eqb i (c.feeding-before.ensures j)) ∙ sym c.if-not-may_lock.ensures in
+    let may : may_lock s o i ≡ true = search rules in
     let routes : g.F.Fabric.meaning c.route.new.self ≡ routed m o i = c.route.ensures.after ∙ after_made m o i made in
     c.settle.ensures
-    ∙ (λ j. settled (c.set_lock.ensures j) o (c.feeding-before.ensures j) (c.is_locked-was.ensures j))
+    ∙ (λ j. settled (c.set_lock.ensures j) o (c.output_state-before.ensures.input j) (c.output_state-before.ensures.locked j))
     ∙ ap (λ (n : Meaning). settled (with_lock o true (with_fabric n s)) o (m.feeding o) (s.locks o)) routes
     ∙ ap (λ (f : Option SwitchFault). unless_found s f (do_lock s o i)) (sym (no_lock_fault s o i may made))

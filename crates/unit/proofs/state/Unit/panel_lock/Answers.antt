@@ -12,12 +12,3 @@ returns-in_err-lock-clause-law g c = laws_kept _ _ (panel_lock c.args.output c.a
 
 pub returns-clause-law : goal.returns-clause-law
 returns-clause-law g c = laws_kept _ _ (panel_lock c.args.output c.args.input) _ refl (search rules) (search rules)
-
-pub returns-in_err-check_panel-clause-answer : goal.returns-in_err-check_panel-clause-answer
-returns-in_err-check_panel-clause-answer g c = grind (arith, common_steps)
-
-pub returns-in_err-lock-clause-answer : goal.returns-in_err-lock-clause-answer
-returns-in_err-lock-clause-answer g c = grind (arith, common_steps)
-
-pub returns-in_err-lock-clause-after : goal.returns-in_err-lock-clause-after
-returns-in_err-lock-clause-after g c = grind (arith, common_steps)

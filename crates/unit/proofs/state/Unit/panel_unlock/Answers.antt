@@ -1,5 +1,4 @@
-use Rattle.std.proofs.Common.{refl, arith, rules}
-use Rattle.std.proofs.lemmas.Grind.{common_steps}
+use Rattle.std.proofs.Common.{refl, rules}
 use Rattle.rules.specs.Calls.{panel_unlock}
 use Rattle.unit.proofs.Histories.{laws_kept}
 use Rattle.unit.proofs.state.Unit.panel_unlock.Goals as goal
@@ -9,6 +8,3 @@ returns-in_err-check_panel-clause-law g c = laws_kept _ _ (panel_unlock c.args.o
 
 pub returns-clause-law : goal.returns-clause-law
 returns-clause-law g c = laws_kept _ _ (panel_unlock c.args.output c.args.input) _ refl (search rules) (search rules)
-
-pub returns-in_err-check_panel-clause-answer : goal.returns-in_err-check_panel-clause-answer
-returns-in_err-check_panel-clause-answer g c = grind (arith, common_steps)
