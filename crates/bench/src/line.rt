@@ -15,6 +15,7 @@ fn port_digit(port: Port) -> u8
     b'0' + u8::from(port)
 }
 
+// By two_hex and no {:02X}, so that a clause says which bytes are printed.
 fn spaced_hex(b: u8) -> [u8; 3]
     ensures { result ≡ 0x20 ∷ two_hex b }
 {

@@ -10,8 +10,10 @@ use calls::{Call, ListedCall, serve};
 use fabric::Card;
 use rules::port::Port;
 use std::alloc::{AllocError, Global};
+use wire::reply::MOST_REPLY;
 
-const ROOM: usize = 64;
+// The length of a byte call's buffer: the shortest that the unit takes.
+const ROOM: usize = MOST_REPLY;
 
 // The call of a pair: 01 to 03 are a byte at port 1 to 3, 11 to 13 are 200 ms of silence there. Other pairs are none.
 fn call_in(heap: Global, first: u8, byte: u8) -> Result<Option<ListedCall>, AllocError>

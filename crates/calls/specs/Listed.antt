@@ -6,7 +6,7 @@
 --   Shown            a call with what came back: the answer, if it was made, and the buffer
 --   shown x          what a call of the list shows
 --   shown_at s l     what a call shows that was made in the state s
---   shown-along s ls the same of all calls of a list
+--   shown_along s ls the same of all calls of a list
 --   event_if_made    a call with its answer, as it is seen from outside; none if it was not made
 --   event_in x       the event of a call that shows x
 --   event x          the event of a call of the list

@@ -13,6 +13,7 @@ use fabric::Fabric;
 use rules::refusal::Refusal;
 use unit::Unit;
 
+// One match on the calls: a table of functions is no plainer, since each has arguments of its own.
 fn make<F: Fabric>(unit: &mut Unit<F>, call: &mut Call) -> Result<usize, Refusal>
     ensures same { call_of call.new ≡ call_of call.old }
     ensures answer { result ≡ (step (state_of F.meaning unit.old) (call_of call.old)).answer.result }
