@@ -88,7 +88,7 @@ impl<F: Fabric, G: Fabric> Join<F, G> {
         Ok(())
     }
 
-    // The same without selecting.
+    // The same without selecting. The match of `can_make` again: one function is no plainer, since one changes a part and the other asks it.
     fn route_below(&mut self, output: u16, input: u16) -> Result<(), RouteFault>
         requires { covers (F.Fabric.meaning self.old.first) (G.Fabric.meaning self.old.second) output input ≡ true }
         ensures answer { result ≡ answer (join_meaning F.Fabric.meaning G.Fabric.meaning self.old) output input }

@@ -37,7 +37,7 @@ pub trait Fabric {
         ensures { result ≡ (meaning self.now).outputs };
 
     // The input that feeds an output; 0 for an output outside the count.
-    // A number: an `Option` is no plainer, since callers ask for outputs that they have checked, and would only take it apart.
+    // A number: an `Option` is no plainer, since the rules compare with 0, and a unit asks only for outputs that it has checked.
     fn feeding(&self, output: u16) -> u16
         ensures { result ≡ (meaning self.now).feeding output };
 

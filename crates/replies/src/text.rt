@@ -10,7 +10,8 @@ use wire::list::KeptList;
 pub struct TooLong;
 
 // Up to ten bytes.
-// No `impl Model`: a model of a `Copy` type has to give the fields back (`inverse`), the bytes of unused places too.
+// No `impl Model`: a model of a `Copy` type has to give the fields back (`inverse`), the bytes of unused places too,
+// which is no plainer.
 #[derive(Clone, Copy)]
 pub struct ShortText {
     bytes: KeptList<u8, MOST_TEXT>,

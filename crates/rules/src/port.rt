@@ -61,7 +61,7 @@ impl<R> PerPort<R> {
         }
     }
 
-    // The value at a port, to be read.
+    // The value at a port, to be read. Beside `of`: one is lent to be changed and one to be read, which one function cannot do.
     pub fn at(&self, port: Port) -> &R
         ensures { result.now ≡ at self.now port }
     {

@@ -80,6 +80,7 @@ impl<F: Fabric> Unit<F> {
         ensures buffer { buffer.new ≡ written (packet_step (state_of F.meaning self.old) port (Some (packet_of packet.now))).answer.reply buffer.old }
         ensures after { state_of F.meaning self.new ≡ (packet_step (state_of F.meaning self.old) port (Some (packet_of packet.now))).next }
     {
+        // A `let else`: `map_or` is no plainer, since its closure would change the unit and the buffer.
         let Some(parts) = packet.parts() else {
             return 0;
         };

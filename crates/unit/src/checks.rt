@@ -22,7 +22,8 @@ fn is_ethernet(port: Port) -> bool
     port == Port::Two
 }
 
-// With then_some and ok_or: no plainer, since a bool is first made an Option.
+// With then_some and ok_or: no plainer, since a bool is first made an Option. A refusal that stands alone in its function is an `if`, and a call of
+// `check` there no plainer.
 pub(crate) fn check<E: Drop>(passed: bool, fault: E) -> Result<(), E>
     ensures { result ≡ checked (unless passed fault) }
 {
@@ -30,6 +31,7 @@ pub(crate) fn check<E: Drop>(passed: bool, fault: E) -> Result<(), E>
 }
 
 impl<F: Fabric> Unit<F> {
+    // Two: a shared one is no plainer, since each asks the fabric for another count.
     pub(crate) fn is_output(&self, output: u16) -> bool
         ensures { result ≡ within output (state_of F.meaning self.now).fabric.outputs }
     {
@@ -63,7 +65,7 @@ impl<F: Fabric> Unit<F> {
     ) -> Result<(), CommandFault>
         ensures { result ≡ checked (range_fault (mask_in_range (state_of F.meaning self.now) group bit output)) }
     {
-        let inside = is_within(group as u16, 8) && bit <= 1 && self.is_output(output);
+        let inside = is_within(u16::from(group), 8) && bit <= 1 && self.is_output(output);
         check(inside, CommandFault::OutOfRange)
     }
 

@@ -69,7 +69,7 @@ pub fn read_colon(s: &[u8]) -> Option<&[u8]>
     read_mark(s, b':')
 }
 
-// A number below 10.
+// A number below 10. An `if`: `then_some` would add before it is known that the sum fits, and a closure for one line is no plainer.
 pub fn one_digit(n: u8) -> Option<[u8; 1]>
     ensures answer { result ≡ if_below 10 n (one_digit n) }
     ensures law { DigitReadsBack n }

@@ -16,7 +16,7 @@ pub struct KeptList<T, const N: usize> {
     ghost within: { used ≤ N },
 }
 
-// Written by hand: `Clone` is not derived for a generic type with a ghost field.
+// Written by hand: tried, and `Clone` is not derived for a generic type with a ghost field.
 impl<T: Copy, const N: usize> Clone for KeptList<T, N> {
     ghost is_clone = { λ a b. b ≡ a };
 

@@ -127,6 +127,7 @@ fn read_entries(n: u8, s: &[u8]) -> Option<ChangeQueue>
 {
     let mut queue = ChangeQueue::new();
     let mut rest = s;
+    // A loop: a chain is no plainer, since each entry is read from where the one before ended, and the queue is changed.
     for _read in 0..n {
         rest = read_entry(&mut queue, rest)?;
     }

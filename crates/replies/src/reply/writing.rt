@@ -39,7 +39,7 @@ fn locked_letter(locked: bool) -> u8
     if locked { b'L' } else { b'U' }
 }
 
-// Inputs and outputs with an X between.
+// Inputs and outputs with an X between. Two numbers: a struct is no plainer, since a reply may hold any two.
 fn size_digits(inputs: u16, outputs: u16) -> Option<[u8; 7]>
     ensures { result ≡ (if nat_lt inputs 1000 && nat_lt outputs 1000 then Some (three_digits inputs ++ 0x58 ∷ three_digits outputs) else None) }
 {
