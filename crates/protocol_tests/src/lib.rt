@@ -1,5 +1,17 @@
-// Examples of packets and replies, byte by byte. They need no unit.
+// Examples of packets and replies, byte by byte, and the length of any reply. They need no unit.
 #![tactic(auto)]
+
+ghost use Rattle.std.specs.Prelude.{◌≡◌, length};
+
+use wire::reply::{MOST_REPLY, SealedReply};
+
+// The length of any sealed reply, by copying it: a buffer as long as the longest reply always holds it.
+pub fn length_of(reply: &SealedReply) -> usize
+    ensures { result ≡ length reply.now }
+{
+    let mut buffer = [0; MOST_REPLY];
+    reply.copy_to(&mut buffer).unwrap()
+}
 
 #[cfg(test)]
 mod tests {

@@ -1,6 +1,6 @@
 // Replies: a draft takes body bytes, sealing ends it, and only a sealed reply can be copied out.
 ghost use Rattle.std.specs.Prelude.{◌≡◌, ℕ, ◌≤◌, List, [], ◌∷◌, length, take, drop, slice_index};
-ghost use Rattle.wire.specs.Frames.{Frame, check_byte, added, on_line, copied, WholeReplySumsToZero};
+ghost use Rattle.wire.specs.Frames.{Frame, most_body, check_byte, added, on_line, copied, WholeReplySumsToZero};
 
 use crate::address::AddressBytes;
 use crate::control::ETX;
@@ -116,6 +116,8 @@ impl Draft {
     pub fn add(&mut self, b: u8) -> Result<(), DraftFault>
         ensures answer { result ≡ add_answer self.old (b ∷ []) }
         ensures after { self.new ≡ added self.old (b ∷ []) }
+        ensures before { length self.old.body ≤ most_body }
+        ensures few { length self.new.body ≤ most_body }
     {
         self.add_all(&[b])
     }
@@ -124,6 +126,8 @@ impl Draft {
     pub fn add_all(&mut self, bytes: &[u8]) -> Result<(), DraftFault>
         ensures answer { result ≡ add_answer self.old bytes.now }
         ensures after { self.new ≡ added self.old bytes.now }
+        ensures before { length self.old.body ≤ most_body }
+        ensures few { length self.new.body ≤ most_body }
     {
         let used = self.used;
         let n = bytes.len();
@@ -138,7 +142,8 @@ impl Draft {
 
     // Ends the draft with ETX and the check byte.
     pub fn seal(self) -> SealedReply
-        ensures { result ≡ on_line self }
+        ensures value { result ≡ on_line self }
+        ensures few { length result ≤ 64 }
     {
         let Draft { mut cells, used } = self;
         let end = FRONT + used;
@@ -183,6 +188,7 @@ impl SealedReply {
     pub fn copy_to(&self, out: &mut [u8]) -> Result<usize, CopyFault>
         ensures answer { result ≡ copy_answer self.now out.old }
         ensures after { out.new ≡ copied self.now out.old }
+        ensures few { length self.now ≤ 64 }
     {
         let bytes = self.as_bytes();
         let n = bytes.len();

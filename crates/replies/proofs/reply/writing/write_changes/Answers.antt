@@ -53,5 +53,5 @@ returns c =
     let value = c.as_slice-changes.ensures.value in
     let few = c.as_slice-changes.ensures.few in
     let small : AllByRecursion SmallChange cs = subst (AllByRecursion SmallChange) all c.loop-change.invariant.1 in
-    ap (λ (b : List ℕ). Some b) (c.seal.ensures ∙ ap on_line (c.loop-change.invariant.0 ∙ ap (entries_frame c.args.address.high c.args.address.low (length cs)) all ∙ (λ i. entries_frame c.args.address.high c.args.address.low (length (value i)) (value i))))
+    ap (λ (b : List ℕ). Some b) (c.seal.ensures.value ∙ ap on_line (c.loop-change.invariant.0 ∙ ap (entries_frame c.args.address.high c.args.address.low (length cs)) all ∙ (λ i. entries_frame c.args.address.high c.args.address.low (length (value i)) (value i))))
     ∙ written c.args.address.high c.args.address.low (ack (changes (queued c.args.queue.now).items)) (omega (arith, few, ap length value), subst (AllByRecursion SmallChange) value small)
