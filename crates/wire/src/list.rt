@@ -8,11 +8,12 @@ use std::alloc::AllocError;
 // The first N elements, in order, and whether one more came. A mark and no `Result`: the elements are kept with it and without it.
 // An array and no `Vec`, since the unit allocates nothing; and no `ArrayVec`, which is not `Copy`.
 // A ghost field, no `impl Model`: a model of a `Copy` type has to give back all fields (`inverse`), unused places too, which is no plainer.
+// The mark stands before the count: behind a few bytes it then takes no word of its own.
 #[derive(Copy)]
 pub struct KeptList<T, const N: usize> {
     cells: [T; N],
-    used: usize,
     overrun: bool,
+    used: usize,
     ghost within: { used ≤ N },
 }
 
