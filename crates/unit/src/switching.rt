@@ -67,10 +67,15 @@ impl<F: Fabric> Unit<F> {
         ensures answer { result ≡ checked (setting_fault (state_of F.meaning self.old) output input) }
         ensures after { state_of F.meaning self.new ≡ unless_found (state_of F.meaning self.old) (setting_fault (state_of F.meaning self.old) output input) (do_set (state_of F.meaning self.old) output input) }
     {
-        let before = self.output_state(output);
-        if before.locked {
+        // The lock is asked first, and alone: a pile of fabrics has to be searched for the feeding input.
+        let locked = self.locks.is_locked(output);
+        if locked {
             return Err(SwitchFault::OutputLocked);
         }
+        let before = OutputState {
+            input: self.fabric.feeding(output),
+            locked,
+        };
         self.fabric.route(output, input)?;
         self.settle(output, before);
         Ok(())
