@@ -25,6 +25,7 @@ pub struct Join<F, G> {
 
 impl<F: Fabric, G: Fabric> Join<F, G> {
     // The first fabric is selected for every output.
+    #[tactic(auto, using(crate::proofs::Sides::first_selected))]
     pub fn new(first: F, second: G) -> Join<F, G>
         ensures meaning { join_meaning F.Fabric.meaning G.Fabric.meaning result ≡ new_join (F.Fabric.meaning first) (G.Fabric.meaning second) }
         ensures first { F.Fabric.meaning result.first ≡ F.Fabric.meaning first }

@@ -1,6 +1,7 @@
 // A bank before service: its size, and which of its relays are bad.
 ghost use Rattle.std.specs.Prelude.{◌≡◌, true, ◌&&◌};
 ghost use Rattle.fabric.specs.Meaning.{within};
+ghost use Rattle.fabric.specs.Cards.{started};
 ghost use Rattle.fabric.specs.Banks.{AllOnFirst, new_bank, without, marked};
 
 use super::row::{RelayRow, relay};
@@ -22,9 +23,16 @@ impl BankSetup {
     pub fn new(inputs: u16, outputs: u16) -> BankSetup
         ensures { setup_meaning result ≡ new_bank inputs outputs }
     {
+        BankSetup::unmarked(Size::nearest(inputs, outputs))
+    }
+
+    // A bank of this size, with no relay marked bad.
+    fn unmarked(size: Size<MOST_RELAYS, MOST_RELAYS>) -> BankSetup
+        ensures { setup_meaning result ≡ started size.inputs size.outputs }
+    {
         BankSetup {
             bank: RelayBank {
-                size: Size::nearest(inputs, outputs),
+                size,
                 rows: [RelayRow { closed: 1, bad: 0 }; MOST_RELAYS as usize],
             },
         }
